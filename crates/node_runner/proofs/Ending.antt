@@ -26,7 +26,7 @@ use Rattle.node_runner.specs.declared.ends.Doubt.TheVariants as doubt
 use Rattle.node_runner.specs.declared.ends.Histories.{Histories}
 use Rattle.node_runner.specs.Runs.{IsBookOf, IsTakenFrom, IsFromScheduler, IsFromWorker, IsFromClient, IsHistory, IsNextStep, IsSchedulersBook, IsWorkersBook, IsClientsBook}
 use Rattle.node_runner.specs.Runs.{WorkerSteps, ClientSteps, SchedSteps, WorkerCoreSteps, ClientCoreSteps, SchedCoreSteps}
-use Rattle.node_runner.specs.Runs.{AreWhole, IsSpent, last_facts, IsDoubt, IsDoubtBy, IsFailure, IsGivenUp, IsLeft, HasCause, HasGot, IfStatus, IsBlamed, HasRun, course_of, setting_of}
+use Rattle.node_runner.specs.Runs.{AreWhole, IsSpent, last_facts, IsDoubt, IsDoubtBy, IsFailure, IsGivenUp, IsRow, HasCause, HasGot, IfStatus, IsBlamed, HasRun, course_of, setting_of}
 use Rattle.node_runner.proofs.Places.{all_by_through}
 use Rattle.node_runner.proofs.Replaying.{replays_on}
 
@@ -91,12 +91,12 @@ module _ {B : Type 0} (l : LabelFacts B) (graph : Shape) (p : RunPlan) where
 
   -- why the workers left, by their histories
   pub left_is : {W C : Type 0} (limit : ℕ) (inner : C → Entry → C → Type 0) (taken : C → ℕ) (f : Facts) (book : W → BookState C) (ws : List W) (hs : List History) (left : List (Option Why))
-      → AllBy (λ k w o. IfSome o (IsLeft p f (k + 1) (book w).entries (book w).cut)) ws left
+      → AllBy (λ k w o. IsRow p f (k + 1) (book w).entries (book w).cut o) ws left
       → AllBy (λ k w h. IsTakenFrom limit inner taken (book w) h) ws hs
-      → AllBy (λ k h o. IfSome o (IsLeft p f (k + 1) h.entries (is_some h.cut))) hs left
-  left_is limit inner taken f book ws hs left rows from = all_by_through (λ k w o. IfSome o (IsLeft p f (k + 1) (book w).entries (book w).cut)) (λ w h. IsTakenFrom limit inner taken (book w) h)
-      (λ k h o. IfSome o (IsLeft p f (k + 1) h.entries (is_some h.cut))) ws hs left
-      (λ k w h o row own. subst (λ (z : List Entry × Bool). IfSome o (IsLeft p f (k + 1) z.0 z.1)) (λ j. (sym own.entries j, sym own.cut j)) row) rows from
+      → AllBy (λ k h o. IsRow p f (k + 1) h.entries (is_some h.cut) o) hs left
+  left_is limit inner taken f book ws hs left rows from = all_by_through (λ k w o. IsRow p f (k + 1) (book w).entries (book w).cut o) (λ w h. IsTakenFrom limit inner taken (book w) h)
+      (λ k h o. IsRow p f (k + 1) h.entries (is_some h.cut) o) ws hs left
+      (λ k w h o row own. subst (λ (z : List Entry × Bool). IsRow p f (k + 1) z.0 z.1 o) (λ j. (sym own.entries j, sym own.cut j)) row) rows from
 
 -- each entry counts 48 bytes at least
 bytes_of : (es : List Entry) → 48 * length es ≤ history_bytes es
@@ -158,7 +158,7 @@ pub has_run : {B W C D A : Type 0} (l : LabelFacts B) (graph : Shape) (p : RunPl
     → IsClientsBook l graph name client d
     → IsFromScheduler l b h.scheduler → AllBy (λ k w x. IsFromWorker l number core taken (book w) x) ws h.workers.items → IsFromClient l name client asked d h.client
     → (b.cut ≡ false → AreInTime b.core.plan (start_of (facts b.core.core).setting) b.entries)
-    → AllBy (λ k w o. IfSome o (IsLeft p (facts b.core.core) (k + 1) (book w).entries (book w).cut)) ws left
+    → AllBy (λ k w o. IsRow p (facts b.core.core) (k + 1) (book w).entries (book w).cut o) ws left
     → IfOk r (λ x. HasGot (client d.core) d.entries d.cut wanted)
     → IfStatus (IsBlamed failed spent) r → IfSome failed (IsFailure l p wanted (facts b.core.core)) → (spent ≡ true → IsSpent b book taken ws d asked)
     → HasRun l graph p wanted ⊥ (last_facts (facts b.core.core) (map (λ w. core (book w).core) ws) (client d.core)) r left h

@@ -1,7 +1,7 @@
 -- Relations place by place, that know the place.
-use Rattle.std.proofs.Common.{◌≡◌, ◌&&◌, Bool, true, false, Option, Some, None, ℕ, ◌+◌, ◌<◌, List, [], ◌∷◌, ◌++◌, length, get_or, take, sym, ap, ◌∙◌, subst, refl, arith}
+use Rattle.std.proofs.Common.{◌≡◌, ◌&&◌, map, set, drop, zero, suc, Bool, true, false, Option, Some, None, ℕ, ◌+◌, ◌<◌, ◌≤◌, List, [], ◌∷◌, ◌++◌, length, get_or, take, sym, ap, ◌∙◌, subst, refl, arith}
 use Rattle.std.specs.Prelude.{IfSome}
-use Rattle.std.proofs.lemmas.List.{length-append, length-take, take_more, get_or_append_left, get_or_push}
+use Rattle.std.proofs.lemmas.List.{length-map, get_or-map, length-append, length-take, take_more, get_or_append_left, get_or_push}
 use mathlib.Core.Logic.{dite}
 use native.Mathlib.Decide.{ℕ_discrete}
 use Rattle.turn_cell.specs.Rows.{AllBy}
@@ -37,6 +37,16 @@ all_by_through R S Q (x ∷ xs) ys zs f h s = record {
       f k (get_or (x ∷ xs) k x) (get_or ys k b) (get_or zs k c) (h.each k x c less) (s.each k x b short);
 }
 
+-- each of the second made to another
+pub all_by_mapped : {A B : Type 0} (R : ℕ → A → B → Type 0) (f : B → B) (xs : List A) (ys : List B)
+    → ((k : ℕ) (a : A) (b : B) → R k a b → R k a (f b)) → AllBy R xs ys → AllBy R xs (map f ys)
+all_by_mapped R f xs [] g h = record { long = h.long; each = λ k a b less. absurd (omega (arith, less)) }
+all_by_mapped R f xs (y ∷ ys) g h = record {
+  long = length-map (y ∷ ys) f ∙ h.long;
+  each = λ k a b less. let short : k < length (y ∷ ys) = omega (arith, less, length-map (y ∷ ys) f) in
+      subst (R k (get_or xs k a)) (sym (get_or-map f (y ∷ ys) k y b short)) (g k (get_or xs k a) (get_or (y ∷ ys) k y) (h.each k a y short));
+}
+
 -- what holds of a value that is whole holds of what comes of it
 pub if_whole : {V : Type 0} (P : V → Type 0) (whole : Bool) (v : V) (o : Option V) → IfSome o (λ x. (whole ≡ true) × (x ≡ v)) → (whole ≡ true → P v) → IfSome o P
 if_whole P whole v None h k = tt
@@ -47,3 +57,16 @@ pub first_two : (a b c : Bool) → (a && b) && c ≡ true → (a ≡ true) × (b
 first_two true true c e = (refl, refl)
 first_two true false c e = let no : ⊥ = cc in absurd no
 first_two false b c e = let no : ⊥ = cc in absurd no
+
+-- one more of a list made to another in its place
+pub mapped_next : {B : Type 0} (f : B → B) (xs : List B) (i : ℕ) (d : B) → i < length xs
+    → set (map f (take i xs) ++ drop i xs) i (f (get_or (map f (take i xs) ++ drop i xs) i d)) ≡ map f (take (i + 1) xs) ++ drop (i + 1) xs
+mapped_next f [] i d less = absurd (omega (arith, less))
+mapped_next f (x ∷ xs) zero d less = refl
+mapped_next f (x ∷ xs) (suc i) d less = ap (λ ys. f x ∷ ys) (mapped_next f xs i d (omega (arith, less)))
+
+pub mapped_all : {B : Type 0} (f : B → B) (xs : List B) (i : ℕ) → length xs ≤ i → map f (take i xs) ++ drop i xs ≡ map f xs
+mapped_all f [] zero less = refl
+mapped_all f [] (suc i) less = refl
+mapped_all f (x ∷ xs) zero less = absurd (omega (arith, less))
+mapped_all f (x ∷ xs) (suc i) less = ap (λ ys. f x ∷ ys) (mapped_all f xs i (omega (arith, less)))

@@ -1,5 +1,5 @@
 -- How a run by threads ended.
-use Rattle.std.specs.Prelude.{◌≡◌, ◌≢◌, ℕ, ◌+◌, ◌^◌, ◌<◌, ◌≤◌, ◌⊎◌, Bool, true, false, List, [], ◌∷◌, ◌++◌, length, map, sum, slice_index_or, Option, Some, None, All, IfOk, IfSome, is_some, Result, Ok, Err, Contains, IsTrue}
+use Rattle.std.specs.Prelude.{◌≡◌, ◌≢◌, ℕ, ◌+◌, ◌-◌, ◌^◌, ◌<◌, nat_lt, ◌≤◌, ◌⊎◌, Bool, true, false, List, [], ◌∷◌, ◌++◌, length, map, filter, sum, take, slice_index_or, Option, Some, None, All, IfOk, IfSome, is_some, Result, Ok, Err, Contains, IsTrue}
 use Rattle.cluster_msgs.specs.Shape.{Shape}
 use Rattle.cluster_msgs.specs.Labels.{LabelFacts, BlameFits, ErrorFits}
 use Rattle.cluster_msgs.specs.Scripts.{removes_of}
@@ -20,7 +20,7 @@ use Rattle.scheduler_core.specs.Cores.{facts}
 use Rattle.node_states.specs.Machines.{SchedState, SchedSays, SchedBy, WorkerSays, WorkerBy, ClientSays, ClientBy, scheduler_bytes, node_bytes}
 use Rattle.node_states.specs.Order.{AreInTime, start_of, joins_of}
 use Rattle.node_states.specs.Released.{WasReleased}
-use Rattle.node_states.specs.Workers.{ends_last}
+use Rattle.node_states.specs.Workers.{ends_last, no_end}
 use Rattle.node_states.specs.declared.choice.Plan.{Plan}
 use Rattle.node_states.specs.declared.why.Why.{Why}
 use Rattle.node_states.specs.declared.why.Why.TheVariants as why
@@ -161,22 +161,55 @@ Names w (item.Lose v at) = v ≡ w
 Names w (item.Suspect v at) = v ≡ w
 Names w (item.Join at) = ⊥
 
-pub record IsNamed (script : List Item) (w : ℕ) : Type 0 where
-  pub which : Item
-  pub among : Contains script which
-  pub names : Names w which
+-- an item of the script names the worker, and each join that stands before it was made, where so many workers joined
+pub record IsNamed (p : RunPlan) (joined w : ℕ) : Type 0 where
+  pub place : ℕ
+  pub within : place < length p.script
+  pub names : (d : Item) → Names w (slice_index_or p.script place d)
+  pub made : p.workers + sum (map joins_of (take place p.script)) ≤ joined
 
 -- a worker that joined left for this cause: these entries say its end, or one was left out, or it isn't connected any more. By the script only where an
 -- item names it, and by no link's end, which a run in one process doesn't have
 pub record IsLeft (p : RunPlan) (f : Facts) (w : ℕ) (entries : List Entry) (cut : Bool) (cause : Why) : Type 0 where
   pub joined : w ≤ f.last_worker
   pub gone : (cut ≡ false → ends_last w entries ≡ true) ⊎ (connected f w ≡ false)
-  pub script : cause ≡ why.Script → IsNamed p.script w
+  pub script : cause ≡ why.Script → IsNamed p f.last_worker w
   pub unlinked : cause ≢ why.Link
+
+-- a worker's row: why it left; and one that joined and has none has no end among its entries, and is connected
+abbrev pub IsRow : RunPlan → Facts → ℕ → List Entry → Bool → Option Why → Type 0
+IsRow p f w entries cut None = w ≤ f.last_worker → (no_end entries ≡ true) × (connected f w ≡ true)
+IsRow p f w entries cut (Some cause) = IsLeft p f w entries cut cause
+
+-- a worker left for a feed, and how many did
+abbrev pub is_feed_row : Option Why → Bool
+is_feed_row None = false
+is_feed_row (Some why.Script) = false
+is_feed_row (Some why.Feed) = true
+is_feed_row (Some why.Link) = false
+is_feed_row (Some why.Memory) = false
+
+abbrev pub feed_rows : List (Option Why) → ℕ
+feed_rows left = length (filter is_feed_row left)
+
+-- how many workers had too few feeds, by the lengths of their lists of feeds; and how many of these feeds have failed
+abbrev pub lacking_feeds : RunPlan → List ℕ → ℕ
+lacking_feeds p given = (numbers p - length given) + length (filter (λ n. nat_lt n p.threads) given)
+
+abbrev pub failed_feeds : {F : Type 0} → (F → ℕ) → List F → ℕ
+failed_feeds faults back = length (filter (λ f. nat_lt 0 (faults f)) back)
+
+-- a row with want of memory in the place of a feed
+abbrev pub without_feed : Option Why → Option Why
+without_feed None = None
+without_feed (Some why.Script) = Some why.Script
+without_feed (Some why.Feed) = Some why.Memory
+without_feed (Some why.Link) = Some why.Link
+without_feed (Some why.Memory) = Some why.Memory
 
 -- which workers left, by number from 1, and why
 abbrev pub AreLeft : RunPlan → LastFacts → List History → List (Option Why) → Type 0
-AreLeft p last histories left = AllBy (λ k h o. IfSome o (IsLeft p last.scheduler (k + 1) h.entries (is_some h.cut))) histories left
+AreLeft p last histories left = AllBy (λ k h o. IsRow p last.scheduler (k + 1) h.entries (is_some h.cut) o) histories left
 
 -- no worker is left: each that joined has a row, none for want of memory
 pub record IsGivenUp (f : Facts) (left : List (Option Why)) : Type 0 where
@@ -273,6 +306,19 @@ IsBlamed failed spent (status.Killed key losses) = ⊥
 IsBlamed failed spent status.Read = ⊥
 IsBlamed failed spent status.Events = spent ≡ true
 IsBlamed failed spent status.Memory = Unit {0}
+
+-- an end with want of memory in the place of what rests on why workers left
+abbrev pub without_rows : {A : Type 0} → Result A RunStatus → Result A RunStatus
+without_rows (Ok x) = Ok x
+without_rows (Err (status.Zero blame)) = Err (status.Zero blame)
+without_rows (Err (status.Killed blame losses)) = Err status.Memory
+without_rows (Err status.Read) = Err status.Memory
+without_rows (Err status.Events) = Err status.Events
+without_rows (Err status.Memory) = Err status.Memory
+
+-- the rows and the end as they were, or with want of memory in the place of feeds and of what rests on the rows
+abbrev pub AreBacked : {A : Type 0} → Result A RunStatus → List (Option Why) → Result A RunStatus → List (Option Why) → Type 0
+AreBacked result left told rows = ((told ≡ result) × (rows ≡ left)) ⊎ ((told ≡ without_rows result) × (rows ≡ map without_feed left))
 
 -- how a run ended, of whose nodes this was known at the end: where it gives blocks, the client of these histories got each key that is wanted
 pub record HasRun {B A : Type 0} (l : LabelFacts B) (graph : Shape) (p : RunPlan) (wanted : List ℕ) (Failed : Type 0) (last : LastFacts)

@@ -1,6 +1,6 @@
 //! How a run ended, as the closed nodes tell.
-ghost use Rattle.std.specs.Prelude.{◌≡◌, ◌≢◌, ◌≤◌, ◌+◌, ◌^◌, ◌<◌, ◌++◌, ◌∷◌, [], ℕ, List, true, false, None, slice_index_or, All, Contains, IfOk, IfSome, Some};
-ghost use Rattle.cluster_rules.specs.Sched.{Facts as SchedFacts, connected};
+ghost use Rattle.std.specs.Prelude.{◌≡◌, ◌≢◌, ◌≤◌, ◌+◌, ◌^◌, ◌<◌, ◌++◌, ◌∷◌, [], ℕ, List, true, false, cond, None, map, slice_index_or, All, Contains, IfOk, IfSome, Some};
+ghost use Rattle.cluster_rules.specs.Sched.{Facts as SchedFacts};
 ghost use Rattle.gather_client.specs.CoreState.{client_facts};
 ghost use Rattle.scheduler_core.specs.Cores.{facts};
 ghost use Rattle.worker_core.specs.Core.{facts as worker_facts};
@@ -8,7 +8,8 @@ ghost use Rattle.turn_cell.specs.Rows.{AllBy};
 ghost use Rattle.node_states.specs.Fitting.{ClientFits};
 ghost use Rattle.node_states.specs.declared.why.Why.TheVariants as why;
 ghost use Rattle.node_runner.specs.declared.plan.RunPlan.{RunPlan as AnyPlan};
-ghost use Rattle.node_runner.specs.Runs.{HasBlame, HasGot, IsFailure, IsFromWorker, IsGivenUp, IsGot, IsLeft, IsNamed, NoneForMemory};
+ghost use Rattle.node_runner.specs.Runs.{HasBlame, HasGot, IsFailure, IsFromWorker, IsGivenUp, IsGot, IsNamed, IsRow, NoneForMemory};
+ghost use Rattle.node_runner.specs.Runs.{feed_rows as rows_for_feeds, is_feed_row, without_feed as row_without_feed};
 
 use crate::plan::RunPlan;
 use crate::sink::Sink;
@@ -16,6 +17,7 @@ use cluster_msgs::{End, History, Label};
 use cluster_rules::Facts;
 use node_links::Keyed;
 use node_states::{BlockStore, ClientNode, Feeds, SchedulerNode, Why, WorkerNode};
+use scheduler_core::Sched;
 use std::alloc::{AllocError, Global};
 
 /// Why a run gave no blocks.
@@ -217,92 +219,85 @@ pub fn any_spent<B: Drop, L: Label<Block = B>, F: Drop, S: BlockStore<B, L>>(
 }
 
 /// For each worker why it left, if it joined and left.
+///
+/// # Errors
+/// Where there is no memory, or the scheduler's core met want of memory, so that nobody knows who joined.
 pub fn all_left<B: Drop, L: Label<Block = B>, F: Drop, S: BlockStore<B, L>>(
     alloc: Global,
     plan: &RunPlan,
     scheduler: &SchedulerNode<B, L>,
     workers: &[WorkerNode<B, L, F, S>],
 ) -> Result<Vec<Option<Why>>, AllocError>
-    ensures { IfOk result (λ left. AllBy (λ k w o. IfSome o (IsLeft plan.now (facts scheduler.now.history.book.core.core) (k + 1) w.history.book.entries w.history.book.cut))
+    ensures { IfOk result (λ left. AllBy (λ k w o. IsRow plan.now (facts scheduler.now.history.book.core.core) (k + 1) w.history.book.entries w.history.book.cut o)
         workers.now left.items) }
 {
-    let joined = joined(scheduler);
+    let Some(core) = scheduler.history.core() else {
+        return Err(AllocError);
+    };
+    let core = core.core();
     let mut left = Vec::new(alloc);
     for (at, worker) in workers.iter().enumerate() {
-        left.push(row(plan, scheduler, worker, joined, at))?;
+        let found = row(plan, core, worker, at)?;
+        left.push(found)?;
     }
     Ok(left)
 }
 
 /// Why the worker at a place left, if it is one of those that joined and left.
+///
+/// # Errors
+/// Where the worker at this place has another number, which no run makes.
 fn row<B: Drop, L: Label<Block = B>, F: Drop, S: BlockStore<B, L>>(
     plan: &RunPlan,
-    scheduler: &SchedulerNode<B, L>,
+    core: &Sched,
     worker: &WorkerNode<B, L, F, S>,
-    joined: u32,
     at: usize,
-) -> Option<Why>
-    requires joined { joined ≤ (facts scheduler.now.history.book.core.core).last_worker }
-    ensures { IfSome result (IsLeft plan.now (facts scheduler.now.history.book.core.core) (at + 1) worker.now.history.book.entries worker.now.history.book.cut) }
+) -> Result<Option<Why>, AllocError>
+    ensures { IfOk result (IsRow plan.now (facts core.now) (at + 1) worker.now.history.book.entries worker.now.history.book.cut) }
 {
-    if at < joined as usize {
-        why_left(plan, scheduler, worker, at as u32 + 1)
+    if at < core.last_worker() as usize {
+        why_left(plan, core, worker, at as u32 + 1)
     } else {
-        None
+        Ok(None)
     }
 }
 
-/// How many workers joined, as far as the scheduler goes on.
-fn joined<B: Drop, L: Label<Block = B>>(scheduler: &SchedulerNode<B, L>) -> u32
-    ensures { result ≤ (facts scheduler.now.history.book.core.core).last_worker }
-{
-    match scheduler.joined() {
-        Some(joined) => joined,
-        None => 0,
-    }
-}
-
-/// Why a worker left, if it did: it ended, or isn't connected any more.
+/// Why a worker that joined left, if it did: it ended, or isn't connected any more.
 fn why_left<B: Drop, L: Label<Block = B>, F: Drop, S: BlockStore<B, L>>(
     plan: &RunPlan,
-    scheduler: &SchedulerNode<B, L>,
+    core: &Sched,
     worker: &WorkerNode<B, L, F, S>,
     id: u32,
-) -> Option<Why>
-    requires joined { id ≤ (facts scheduler.now.history.book.core.core).last_worker }
-    ensures { IfSome result (IsLeft plan.now (facts scheduler.now.history.book.core.core) id worker.now.history.book.entries worker.now.history.book.cut) }
+) -> Result<Option<Why>, AllocError>
+    requires joined { id ≤ (facts core.now).last_worker }
+    ensures { IfOk result (IsRow plan.now (facts core.now) id worker.now.history.book.entries worker.now.history.book.cut) }
 {
-    if worker.id() == id && worker.ended() {
+    if worker.id() != id {
+        return Err(AllocError);
+    }
+    let joined = core.last_worker();
+    if worker.ended() {
         let why = match worker.why() {
             Some(why) => why,
             None => Why::Memory,
         };
-        return Some(told(plan, id, why));
+        return Ok(Some(told(plan, joined, id, why)));
     }
-    if is_gone(scheduler, id) {
-        return Some(told(plan, id, Why::Script));
+    if !core.connected(id) {
+        return Ok(Some(told(plan, joined, id, Why::Script)));
     }
-    None
+    Ok(None)
 }
 
-/// Whether a worker isn't connected, as far as the scheduler goes on.
-fn is_gone<B: Drop, L: Label<Block = B>>(scheduler: &SchedulerNode<B, L>, worker: u32) -> bool
-    ensures { result ≡ true → connected (facts scheduler.now.history.book.core.core) worker ≡ false }
-{
-    match scheduler.history.core() {
-        Some(core) => !core.core().connected(worker),
-        None => false,
-    }
-}
-
-/// The cause as it is told: the script only where an item names the worker, and no link's end, which a run in one process doesn't have.
-fn told(plan: &RunPlan, worker: u32, cause: Why) -> Why
-    ensures script { result ≡ why.Script → IsNamed plan.now.script worker }
+/// The cause as it is told, where so many workers joined: the script only where an item names the worker whose joins before it were made, and no link's
+/// end, which a run in one process doesn't have.
+fn told(plan: &RunPlan, joined: u32, worker: u32, cause: Why) -> Why
+    ensures script { result ≡ why.Script → IsNamed plan.now joined worker }
     ensures unlinked { result ≢ why.Link }
 {
     match cause {
         Why::Script => {
-            if plan.names(worker) {
+            if plan.names(worker, joined) {
                 Why::Script
             } else {
                 Why::Memory
@@ -338,6 +333,54 @@ fn is_row(left: &[Option<Why>], at: usize) -> bool
             Why::Memory => false,
         },
         _ => false,
+    }
+}
+
+/// How many workers left for a feed.
+pub fn feed_rows(left: &[Option<Why>]) -> u64
+    ensures { result ≡ rows_for_feeds left.now }
+{
+    let mut count: u64 = 0;
+    for row in left {
+        count += one_if(is_feed(*row));
+    }
+    count
+}
+
+fn is_feed(row: Option<Why>) -> bool
+    ensures { result ≡ is_feed_row row }
+{
+    match row {
+        Some(Why::Feed) => true,
+        Some(Why::Script | Why::Link | Why::Memory) => false,
+        None => false,
+    }
+}
+
+/// 1 for yes, 0 for no.
+pub fn one_if(yes: bool) -> u64
+    ensures { result ≡ cond yes 1 0 }
+{
+    if yes { 1 } else { 0 }
+}
+
+/// The same rows, with want of memory in the place of a feed.
+pub fn without_feeds(left: Vec<Option<Why>>) -> Vec<Option<Why>>
+    ensures { result.items ≡ map row_without_feed left.items }
+{
+    let mut left = left;
+    for at in 0..left.len() {
+        left[at] = without_feed(left[at]);
+    }
+    left
+}
+
+fn without_feed(row: Option<Why>) -> Option<Why>
+    ensures { result ≡ row_without_feed row }
+{
+    match row {
+        Some(Why::Feed) => Some(Why::Memory),
+        other => other,
     }
 }
 

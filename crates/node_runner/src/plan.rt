@@ -1,8 +1,9 @@
 //! What a run is to be like.
 ghost use Rattle.std.specs.Prelude.{◌≡◌, ◌<◌, ◌≤◌, ℕ, true, map, vec_len, Contains};
 ghost use Rattle.cluster_msgs.specs.Scripts.{removes_of};
-ghost use Rattle.node_runner.specs.Runs.{IsNamed, numbers, removals};
+ghost use Rattle.node_runner.specs.Runs.{IsNamed, lacking_feeds, numbers, removals};
 
+use crate::ends::one_if;
 use cluster_msgs::{Item, Script};
 
 /// The workers that join first, how many tasks each may run at once, how full a worker is at which no more root tasks go to it, in tenths of its
@@ -35,14 +36,19 @@ impl RunPlan {
         count
     }
 
-    /// Whether an item of the script names a worker.
-    pub fn names(&self, worker: u32) -> bool
-        ensures { result ≡ true → IsNamed self.now.script worker }
+    /// Whether an item of the script names a worker, and of so many workers that joined are all that join before the item.
+    #[tactic(auto, using(crate::proofs::Numbers::joins_before, crate::proofs::Numbers::joins_first))]
+    pub fn names(&self, worker: u32, joined: u32) -> bool
+        ensures { result ≡ true → IsNamed self.now joined worker }
     {
+        let mut before = self.workers as u64;
         for item in self.script.as_slice() {
-            if let Item::Lose { w, at: _ } | Item::Suspect { w, at: _ } = item {
-                if *w == worker {
-                    return true;
+            match item {
+                Item::Join { at: _ } => before += 1,
+                Item::Lose { w, at: _ } | Item::Suspect { w, at: _ } => {
+                    if *w == worker {
+                        return before <= joined as u64;
+                    }
                 }
             }
         }
@@ -59,6 +65,18 @@ impl RunPlan {
             left = left.saturating_sub(removes_of(item));
         }
         left == 0
+    }
+
+    /// How many workers have too few feeds: those without a list of them, and those whose list is shorter than a worker's threads.
+    pub fn lacking<F>(&self, feeds: &[Vec<F>]) -> u64
+        requires { numbers self.now ≤ 1024 }
+        ensures { result ≡ lacking_feeds self.now (map (λ v. vec_len v) feeds.now) }
+    {
+        let mut count = (self.numbers() as u64).saturating_sub(feeds.len() as u64);
+        for own in feeds {
+            count += one_if(own.len() < self.threads as usize);
+        }
+        count
     }
 
     /// Whether one of these numbers of feeds is less than a worker's threads.

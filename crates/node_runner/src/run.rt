@@ -7,11 +7,14 @@ ghost use Rattle.worker_core.specs.Core.{facts as worker_facts};
 ghost use Rattle.node_runner.specs.declared.ends.RunStatus.{RunStatus as AnyStatus};
 ghost use Rattle.node_runner.specs.Making.{AreMade};
 ghost use Rattle.node_runner.specs.Naming.{run_facts};
-ghost use Rattle.node_runner.specs.Runs.{HasFeedFault, HasNotRun, HasRun, HowItEnded, IsDecided, IsDoubt, LastFacts, numbers};
+ghost use Rattle.node_runner.specs.Runs.{AreBacked, HasFeedFault, HasNotRun, HasRun, HowItEnded, IsDecided, IsDoubt, LastFacts, numbers};
+ghost use Rattle.node_runner.specs.Runs.{failed_feeds, feed_rows, lacking_feeds, without_rows as end_without_rows};
 ghost use Rattle.node_runner.specs.Runs.{IsFirstScheduler, IsFirstWorker, IsFirstClient, IsSchedulersBook, IsWorkersBook, IsClientsBook};
 
 use crate::closing::{end_nodes, not_run};
-use crate::ends::{Doubt, Ends, RunStatus, take_apart};
+use crate::ends::{
+    Doubt, Ends, RunStatus, feed_rows as rows_of, one_if, take_apart, without_feeds,
+};
 use crate::label::{Fed, RunLabel, RunName};
 use crate::making::{Rows, make_rows};
 use crate::plan::RunPlan;
@@ -73,17 +76,18 @@ where
     ensures ended { HowItEnded (run_facts J.graph J.operation J.key_dims J.block_dims K.told K.allowed K.job) (J.graph job.now) plan.now wanted.now
         (HasFeedFault J.fault_count plan.now.threads (map (λ v. vec_len v) feeds.items) result.0.feeds.items)
         result.0.result result.0.left.items result.0.histories }
+    ensures rows { feed_rows result.0.left.items ≤ lacking_feeds plan.now (map (λ v. vec_len v) feeds.items) + failed_feeds J.fault_count result.0.feeds.items }
 {
-    let (rows, stamps, short) = begin(alloc, job, plan, wanted, feeds, stores);
+    let (rows, stamps, short, lacking) = begin(alloc, job, plan, wanted, feeds, stores);
     match stamps {
         Some(stamps) => run_made(
-            rt, alloc, job, gate, plan, wanted, short, rows, stamps, sink,
+            rt, alloc, job, gate, plan, wanted, short, lacking, rows, stamps, sink,
         ),
         None => (close_rows(alloc, rows), sink),
     }
 }
 
-/// The nodes, the right to draw stamps where all nodes are made and there is memory, and whether a worker has too few feeds.
+/// The nodes, the right to draw stamps where all nodes are made and there is memory, whether a worker has too few feeds, and how many have.
 fn begin<J: JobSpec, K: RunName<J>, S: BlockStore<J::Block, RunLabel<J, K>>>(
     alloc: Global,
     job: &J,
@@ -95,6 +99,7 @@ fn begin<J: JobSpec, K: RunName<J>, S: BlockStore<J::Block, RunLabel<J, K>>>(
     Rows<RunLabel<J, K>, Scheduler<J, K>, Worker<J, K, S>, Client<J, K>>,
     Option<Stamps>,
     bool,
+    u64,
 )
     requires named { K.job ≡ Some job.now }
     requires saturation { (1 ≤ plan.now.saturation) × (plan.now.saturation ≤ 1000) }
@@ -109,13 +114,15 @@ fn begin<J: JobSpec, K: RunName<J>, S: BlockStore<J::Block, RunLabel<J, K>>>(
         (worker_facts s.history.book.kept.core)) (numbers plan.now) (map (λ p. berth_of p.seat) result.0.workers.passes.items)) }
     ensures client { IfSome result.1 (λ _. AreMade (λ k s. IsFirstClient (J.graph job.now) s.book.kept.id (client_facts s.book.kept.core)) 1
         (map (λ p. berth_of p.seat) result.0.clients.passes.items)) }
+    ensures lacking { result.3 ≡ lacking_feeds plan.now (map (λ v. vec_len v) feeds.items) }
     ensures short { result.2 ≡ true → (n : ℕ) × Contains (map (λ v. vec_len v) feeds.items) n × (n < plan.now.threads) }
 {
     let short = plan.is_short(feeds.as_slice());
+    let lacking = plan.lacking(feeds.as_slice());
     let drivers = plan.workers * plan.threads + plan.workers + 1;
     let (rows, whole) = make_rows(alloc, job.shape(), plan, wanted, feeds, stores, drivers + 1);
     let stamps = rights(alloc, whole);
-    (rows, stamps, short)
+    (rows, stamps, short, lacking)
 }
 
 /// The right to draw stamps, where all nodes are made and there is memory.
@@ -128,7 +135,7 @@ fn rights(alloc: Global, whole: bool) -> Option<Stamps>
     Stamps::new(alloc).ok()
 }
 
-/// Runs the nodes that were made. `short` says that a worker has too few feeds.
+/// Runs the nodes that were made. `short` says that a worker has too few feeds, and `lacking` how many have.
 fn run_made<R, J, G, K, S, Z>(
     rt: &R,
     alloc: Global,
@@ -137,6 +144,7 @@ fn run_made<R, J, G, K, S, Z>(
     plan: &RunPlan,
     wanted: &KeyList,
     short: bool,
+    lacking: u64,
     rows: Rows<RunLabel<J, K>, Scheduler<J, K>, Worker<J, K, S>, Client<J, K>>,
     stamps: Stamps,
     sink: Z,
@@ -163,10 +171,65 @@ where
     ensures ended { HowItEnded (run_facts J.graph J.operation J.key_dims J.block_dims K.told K.allowed K.job) (J.graph job.now) plan.now wanted.now
         ((short ≡ true) ⊎ ((f : _) × Contains result.0.feeds.items f × (0 < J.fault_count f)))
         result.0.result result.0.left.items result.0.histories }
+    ensures rows { feed_rows result.0.left.items ≤ lacking + failed_feeds J.fault_count result.0.feeds.items }
 {
     let (closed, mut sink) = run_rows(rt, alloc, job, gate, plan, wanted, rows, stamps, sink);
     let (ends, doubt) = end_rows(alloc, job.shape(), plan, wanted, closed, &mut sink);
-    (without_doubt(job, plan, short, doubt, ends), sink)
+    let ends = without_doubt(job, plan, short, doubt, ends);
+    (backed(job, lacking, ends), sink)
+}
+
+/// The same, where no more workers left for a feed than had too few feeds and than feeds have failed. Else nobody is told to have left for a feed.
+fn backed<J: JobSpec, K: RunName<J>, S: Drop>(
+    job: &J,
+    lacking: u64,
+    ends: Ends<Fed<J, K>, S>,
+) -> Ends<Fed<J, K>, S>
+    ensures rows { feed_rows result.left.items ≤ lacking + failed_feeds J.fault_count result.feeds.items }
+    ensures same { (result.histories ≡ ends.histories) × (result.feeds ≡ ends.feeds) }
+    ensures ended { AreBacked ends.result ends.left.items result.result result.left.items }
+{
+    let failed = count_failed(job, ends.feeds.as_slice());
+    let rows = rows_of(ends.left.as_slice());
+    if rows.saturating_sub(lacking) <= failed {
+        return ends;
+    }
+    let Ends {
+        result,
+        histories,
+        left,
+        feeds,
+        stores,
+    } = ends;
+    Ends {
+        result: without_rows(result),
+        histories,
+        left: without_feeds(left),
+        feeds,
+        stores,
+    }
+}
+
+/// How many of these feeds have failed.
+fn count_failed<J: JobSpec, K: RunName<J>>(job: &J, feeds: &[Fed<J, K>]) -> u64
+    ensures { result ≡ failed_feeds J.fault_count feeds.now }
+{
+    let mut count: u64 = 0;
+    for fed in feeds {
+        count += one_if(fed.faults(job) > 0);
+    }
+    count
+}
+
+/// The same end, with want of memory in the place of what rests on why workers left.
+fn without_rows(ended: Result<(), RunStatus>) -> Result<(), RunStatus>
+    ensures { result ≡ end_without_rows ended }
+{
+    match ended {
+        Ok(()) => Ok(()),
+        Err(RunStatus::Killed { key: _, losses: _ } | RunStatus::Read) => Err(RunStatus::Memory),
+        Err(other) => Err(other),
+    }
 }
 
 /// Ends a run whose nodes couldn't all be made.

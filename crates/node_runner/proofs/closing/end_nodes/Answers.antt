@@ -4,7 +4,7 @@ use Rattle.gather_client.specs.CoreState.{client_facts}
 use Rattle.scheduler_core.specs.Cores.{facts}
 use Rattle.turn_cell.specs.Rows.{AllBy}
 use Rattle.worker_core.specs.Core.{facts as worker_facts}
-use Rattle.node_runner.specs.Runs.{HasGot, IsBlamed, IsDoubtBy, IsFailure, IsGivenUp, IfStatus, IsLeft, IsSpent, IsFromScheduler, IsFromWorker, IsFromClient}
+use Rattle.node_runner.specs.Runs.{HasGot, IsBlamed, IsDoubtBy, IsFailure, IsGivenUp, IfStatus, IsRow, IsSpent, IsFromScheduler, IsFromWorker, IsFromClient}
 use Rattle.node_runner.proofs.Ending.{doubt_is, has_run, if_told, ok_told, true_there}
 use Rattle.node_runner.proofs.closing.end_nodes.Goals as goal
 
@@ -23,8 +23,8 @@ returns-clause-ended g c =
     (subst (λ o. IfSome o (λ hs. AllBy (λ k w x. IsFromWorker g.L.Label.facts (λ c. c.id) (λ c. worker_facts c.core) (λ c. c.core.events) w.history.book x) c.args.workers.items hs.items)) t.1 c.take_apart-workers.ensures)
     (subst (IsFromClient g.L.Label.facts (λ c. c.id) (λ c. client_facts c.core) (λ c. c.core.events) c.args.client.book) (sym t.2) c.client_history-client.ensures.taken)
     c.scheduler_history-scheduler.ensures.in_time
-    (subst (λ ws. AllBy (λ k w o. IfSome o (IsLeft p (facts b.core.core) (k + 1) w.history.book.entries w.history.book.cut)) ws es.left.items) c.as_slice-4.ensures.value
-    (subst (λ r. IfOk r (λ left. AllBy (λ k w o. IfSome o (IsLeft p (facts b.core.core) (k + 1) w.history.book.entries w.history.book.cut)) c.as_slice-4.result.now left.items)) t.3 c.all_left-left.ensures))
+    (subst (λ ws. AllBy (λ k w o. IsRow p (facts b.core.core) (k + 1) w.history.book.entries w.history.book.cut o) ws es.left.items) c.as_slice-4.ensures.value
+    (subst (λ r. IfOk r (λ left. AllBy (λ k w o. IsRow p (facts b.core.core) (k + 1) w.history.book.entries w.history.book.cut o) c.as_slice-4.result.now left.items)) t.3 c.all_left-left.ensures))
     (subst (λ z. IfOk z (λ x. HasGot (client_facts c.args.client.book.core.core) c.args.client.book.entries c.args.client.book.cut c.args.wanted.now)) (sym e.1)
     (true_there (HasGot (client_facts c.args.client.book.core.core) c.args.client.book.entries c.args.client.book.cut c.args.wanted.now) c.has_got-got.result c.result.result (rw c.as_slice.ensures at c.has_got-got.ensures) c.result.ensures.got))
     (subst (IfStatus (IsBlamed c.first_failure-failed.result c.is_spent-spent.result)) (sym e.1) c.result.ensures.cause)

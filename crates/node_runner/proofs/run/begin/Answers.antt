@@ -5,7 +5,7 @@ use Rattle.gather_client.specs.CoreState.{client_facts}
 use Rattle.worker_core.specs.Core.{facts as worker_facts}
 use Rattle.turn_cell.specs.Rows.{berth_of}
 use Rattle.node_runner.specs.Making.{AreMade}
-use Rattle.node_runner.specs.Runs.{IsFirstScheduler, IsFirstWorker, IsFirstClient, numbers}
+use Rattle.node_runner.specs.Runs.{IsFirstScheduler, IsFirstWorker, IsFirstClient, lacking_feeds, numbers}
 use Rattle.node_runner.proofs.Beginning.{allowed_named, deps_named}
 use Rattle.node_runner.proofs.run.begin.Goals as goal
 
@@ -42,3 +42,8 @@ pub returns-clause-short : goal.returns-clause-short
 returns-clause-short g c =
     subst (λ vs. c.is_short-short.result ≡ true → (n : ℕ) × Contains (map (λ v. vec_len v) vs) n × (n < c.args.plan.now.threads))
     c.as_slice.ensures.value c.is_short-short.ensures
+
+pub returns-clause-lacking : goal.returns-clause-lacking
+returns-clause-lacking g c =
+    subst (λ vs. c.lacking-lacking.result ≡ lacking_feeds c.args.plan.now (map (λ v. vec_len v) vs))
+    c.as_slice-2.ensures.value c.lacking-lacking.ensures

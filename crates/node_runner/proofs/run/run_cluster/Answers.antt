@@ -1,9 +1,9 @@
 use mathlib.Core.Logic.{inl, inr}
-use Rattle.std.proofs.Common.{◌≡◌, ◌<◌, ◌⊎◌, true, map, ⊎_elim}
+use Rattle.std.proofs.Common.{◌≡◌, ◌+◌, ◌≤◌, ◌<◌, ◌⊎◌, true, map, ⊎_elim, arith}
 use Rattle.std.specs.Prelude.{All, Contains, vec_len}
 use Rattle.node_runner.specs.Naming.{run_facts}
 use Rattle.node_runner.specs.Runs.{HasFeedFault}
-use Rattle.node_runner.proofs.FeedFaults.{ended_more, ended_none, none_ok}
+use Rattle.node_runner.proofs.FeedFaults.{ended_more, ended_none, nobody_for_feeds, none_ok}
 use Rattle.node_runner.proofs.run.run_cluster.Goals as goal
 
 pub returns-in-Some-clause-ended : goal.returns-in-Some-clause-ended
@@ -33,3 +33,6 @@ returns-in-None-clause-ended g c =
     ended_none l (j.graph c.args.job.now) c.args.plan.now c.args.wanted.now
     (HasFeedFault j.fault_count c.args.plan.now.threads (map (λ v. vec_len v) c.args.feeds.items) ends.feeds.items)
     ends.result ends.left.items ends.histories c.close_rows.ensures.none c.close_rows.ensures.ended
+
+pub returns-in-None-clause-rows : goal.returns-in-None-clause-rows
+returns-in-None-clause-rows g c = let none = nobody_for_feeds c.close_rows.result.left.items c.close_rows.ensures.ended.nobody in omega (arith, none)

@@ -4,7 +4,7 @@ use Rattle.gather_client.specs.CoreState.{client_facts}
 use Rattle.worker_core.specs.Core.{facts as worker_facts}
 use Rattle.node_runner.specs.Naming.{run_facts}
 use Rattle.node_runner.specs.Runs.{IsDecided, IsSchedulersBook, IsWorkersBook, IsClientsBook, HowItEnded}
-use Rattle.node_runner.proofs.FeedFaults.{still_ok, told_end}
+use Rattle.node_runner.proofs.FeedFaults.{backed_end, backed_ok, still_ok, told_end}
 use Rattle.node_runner.proofs.Beginning.{allowed_named}
 use Rattle.node_runner.proofs.run.run_made.Goals as goal
 
@@ -37,9 +37,13 @@ end_rows-ends-requires-clause-clients g c =
     c.run_rows-closed.result.0.clients.items) (sym c.shape.ensures) c.run_rows-closed.ensures.clients
 
 pub returns-clause-had : goal.returns-clause-had
-returns-clause-had g c = still_ok (λ _. All (λ k. g.Z.Sink.had c.end_rows-ends.new.sink k ≡ true) c.args.wanted.now) c.end_rows-ends.result.0.result c.without_doubt.result.result
+returns-clause-had g c =
+    let ends = c.without_doubt-ends.result in
+    backed_ok (λ _. All (λ k. g.Z.Sink.had c.end_rows-ends.new.sink k ≡ true) c.args.wanted.now) ends.result c.backed.result.result ends.left.items c.backed.result.left.items
+    c.backed.ensures.ended
+    (still_ok (λ _. All (λ k. g.Z.Sink.had c.end_rows-ends.new.sink k ≡ true) c.args.wanted.now) c.end_rows-ends.result.0.result ends.result
     (IsDecided c.args.plan.now ((c.args.short ≡ true) ⊎ ((f : _) × Contains c.end_rows-ends.result.0.feeds.items f × (0 < g.J.JobSpec.fault_count f))) c.end_rows-ends.result.1)
-    c.without_doubt.ensures.changed c.end_rows-ends.ensures.had
+    c.without_doubt-ends.ensures.changed c.end_rows-ends.ensures.had)
 
 pub returns-clause-leads : goal.returns-clause-leads
 returns-clause-leads g c = g.met.Z.Sink.on c.args.sink c.run_rows-closed.result.1 c.end_rows-ends.new.sink c.run_rows-closed.ensures.leads c.end_rows-ends.ensures.leads
@@ -50,9 +54,13 @@ returns-clause-ended g c =
     let k = g.K.RunName in
     let l = run_facts j.graph j.operation j.key_dims j.block_dims k.told k.allowed k.job in
     let old = c.end_rows-ends.result.0 in
-    let new = c.without_doubt.result in
-    subst (λ s. HowItEnded l s c.args.plan.now c.args.wanted.now ((c.args.short ≡ true) ⊎ ((f : _) × Contains new.feeds.items f × (0 < j.fault_count f))) new.result new.left.items new.histories) c.shape.ensures
+    let new = c.without_doubt-ends.result in
+    let last = c.backed.result in
+    backed_end l (j.graph c.args.job.now) c.args.plan.now c.args.wanted.now
+    (λ fs. (c.args.short ≡ true) ⊎ ((f : _) × Contains fs.items f × (0 < j.fault_count f))) new.result last.result new.left.items last.left.items
+    new.histories last.histories new.feeds last.feeds c.backed.ensures.ended c.backed.ensures.same
+    (subst (λ s. HowItEnded l s c.args.plan.now c.args.wanted.now ((c.args.short ≡ true) ⊎ ((f : _) × Contains new.feeds.items f × (0 < j.fault_count f))) new.result new.left.items new.histories) c.shape.ensures
     (told_end l c.shape.result.now c.args.plan.now c.args.wanted.now
     (λ fs. (c.args.short ≡ true) ⊎ ((f : _) × Contains fs.items f × (0 < j.fault_count f))) old.result new.result (λ v. v.items) old.left new.left old.feeds new.feeds
-    old.histories new.histories c.end_rows-ends.result.1 c.end_rows-ends.ensures.ended c.end_rows-ends.ensures.none c.without_doubt.ensures.same
-    c.without_doubt.ensures.none c.without_doubt.ensures.changed)
+    old.histories new.histories c.end_rows-ends.result.1 c.end_rows-ends.ensures.ended c.end_rows-ends.ensures.none c.without_doubt-ends.ensures.same
+    c.without_doubt-ends.ensures.none c.without_doubt-ends.ensures.changed))
