@@ -83,5 +83,5 @@ returns-clause-stopped g c =
     (λ e. ServesPart p (losses_by c.args.words) named told (Rose old.read_faults new.read_faults) (Rose old.write_faults new.write_faults) old.files new.files (left_as e))
     (λ end part. part-between p (losses_by c.args.words) named told (Rose old.read_faults new.read_faults) reads (Rose old.write_faults new.write_faults) writes old.files mid.files new.files new.files (left_as end) c.give_store.ensures.files refl
     (λ rose. rose_first old.read_faults mid.read_faults new.read_faults (let kept = c.give_store.ensures.kept c.requires.fresh in omega (arith, kept)) rose)
-    (λ rose. rose_first old.write_faults mid.write_faults new.write_faults (omega (arith, c.give_store.ensures.only.write_faults)) rose)
+    (λ rose. rose_first old.write_faults mid.write_faults new.write_faults (omega (arith, ap (λ (v : View). v.write_faults) c.give_store.ensures.only.rest)) rose)
     (subst (λ l. ServesPart p l named told reads writes mid.files new.files (left_as end)) same part)) c.run_graph.ensures.stopped
