@@ -1,6 +1,7 @@
 -- How often disks were asked for, call by call.
-use Rattle.std.proofs.Common.{◌≡◌, ◌≤◌, ◌<◌, ◌+◌, ℕ, Bool, true, false, refl, ap, sym, ◌∙◌, subst, arith, inl, inr, if◌then◌else◌}
+use Rattle.std.proofs.Common.{◌≡◌, ◌≤◌, ◌<◌, ◌+◌, ◌⊎◌, ℕ, zero, suc, Bool, true, false, refl, ap, sym, ◌∙◌, subst, arith, inl, inr, if◌then◌else◌}
 use Rattle.std.specs.Prelude.{nat_eq}
+use Rattle.io_edge.proofs.OpeningLaws.{raised_bounds}
 use Rattle.io_edge.specs.View.{View, Spills, raised, raised_at}
 use Rattle.thread_run.specs.Disks.{AsksFor, AsksUpTo}
 
@@ -22,17 +23,14 @@ asks_not worker old new same =
     let at : (w : ℕ) → new.spills.asked w ≡ old.spills.asked w = λ w. ap (λ (v : View). v.spills.asked w) same in
     record { grows = omega (arith, at worker); once = omega (arith, at worker); others = λ w apart. at w }
 
-raised_one : (count : ℕ) → (count ≤ raised count 1) × (raised count 1 ≤ count + 1)
-raised_one count = unfold raised in (omega arith, omega arith)
-
 nat_eq_same : (w : ℕ) → nat_eq w w ≡ true
-nat_eq_same w = omega arith
+nat_eq_same w = grind arith
 
 pub asks_for : (worker : ℕ) (old new : ℕ → ℕ) → new ≡ raised_at worker 1 old → AsksFor worker old new
 asks_for worker old new is =
     let at : (w : ℕ) → new w ≡ raised_at worker 1 old w = λ w. ap (λ (f : ℕ → ℕ). f w) is in
     let own : new worker ≡ raised (old worker) 1 = at worker ∙ ap (λ (b : Bool). if b then raised (old worker) 1 else old worker) (nat_eq_same worker) in
-    let most = raised_one (old worker) in
+    let most = raised_bounds (old worker) 1 in
     record {
       grows = omega (arith, own, most.0);
       once = omega (arith, own, most.1);
@@ -41,20 +39,26 @@ asks_for worker old new is =
 
 -- one more
 
+same_worker : (a b : ℕ) → nat_eq a b ≡ true → b ≡ a
+same_worker a b e = grind arith
+
+other_worker : (a b : ℕ) → (b < a) ⊎ (a < b) → nat_eq a b ≡ false
+other_worker a b h = grind arith
+
 pub asks_next : (last : ℕ) (old mid new : ℕ → ℕ) → AsksUpTo last old mid → AsksFor (last + 1) mid new → AsksUpTo (last + 1) old new
 asks_next last old mid new a b =
     record {
       grows = λ w. (asked w (nat_eq (last + 1) w) refl).0;
       once = λ w. (asked w (nat_eq (last + 1) w) refl).1;
       others = λ w apart. elim apart [
-        | inl none ↦ b.others w (omega (arith, none)) ∙ a.others w (inl none)
-        | inr past ↦ b.others w (omega (arith, past)) ∙ a.others w (inr (omega (arith, past)))
+        | inl none ↦ b.others w (other_worker (last + 1) w (inl (omega (arith, none)))) ∙ a.others w (inl none)
+        | inr past ↦ b.others w (other_worker (last + 1) w (inr (omega (arith, past)))) ∙ a.others w (inr (omega (arith, past)))
       ];
     }
   where
     asked : (w : ℕ) (is : Bool) → nat_eq (last + 1) w ≡ is → (old w ≤ new w) × (new w ≤ old w + 1)
     asked w true e =
-        let own : w ≡ last + 1 = omega (arith, e) in
+        let own : w ≡ last + 1 = same_worker (last + 1) w e in
         let still : mid w ≡ old w = a.others w (inr (omega (arith, own))) in
         let mine : (mid w ≤ new w) × (new w ≤ mid w + 1) = subst (λ x. (mid x ≤ new x) × (new x ≤ mid x + 1)) (sym own) (b.grows, b.once) in
         (omega (arith, still, mine.0), omega (arith, still, mine.1))
@@ -75,8 +79,15 @@ asks_still last old mid new a same = subst (λ (f : ℕ → ℕ). AsksUpTo last 
 pub asks_after : (last : ℕ) (old mid new : ℕ → ℕ) → mid ≡ old → AsksUpTo last mid new → AsksUpTo last old new
 asks_after last old mid new same a = subst (λ (f : ℕ → ℕ). AsksUpTo last f new) same a
 
-pub asks_by : (last : ℕ) (n : ℕ) (old new : ℕ → ℕ) → last ≡ n → AsksUpTo last old new → AsksUpTo n old new
-asks_by last n old new is a = subst (λ m. AsksUpTo m old new) is a
+-- no worker was asked for
+asks_held : (old new : ℕ → ℕ) → AsksUpTo 0 old new → (w : ℕ) → new w ≡ old w
+asks_held old new a zero = a.others zero (inl refl)
+asks_held old new a (suc w) = a.others (suc w) (inr (omega arith))
+
+pub asks_apart : (last : ℕ) (old mid new : ℕ → ℕ) → AsksUpTo last old mid → AsksUpTo 0 mid new → AsksUpTo last old new
+asks_apart last old mid new a none =
+    let still : (w : ℕ) → new w ≡ mid w = asks_held mid new none in
+    record { grows = λ w. omega (arith, a.grows w, still w); once = λ w. omega (arith, a.once w, still w); others = λ w apart. still w ∙ a.others w apart }
 
 pub for_still : (worker : ℕ) (old mid new : ℕ → ℕ) → AsksFor worker old mid → new ≡ mid → AsksFor worker old new
 for_still worker old mid new a same = subst (λ (f : ℕ → ℕ). AsksFor worker old f) (sym same) a

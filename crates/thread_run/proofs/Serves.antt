@@ -7,6 +7,7 @@ use Rattle.io_edge.specs.Cause.{Rose}
 use Rattle.io_edge.specs.declared.edge.OpenFault.{OpenFault}
 use Rattle.io_edge.specs.declared.edge.OpenFault.TheVariants as fault
 use Rattle.io_edge.proofs.GivenLaws.{more_same, more_then}
+use Rattle.io_edge.proofs.Only.{spills_none, writes_none}
 use Rattle.io_edge.specs.View.{View, Files, OnlyReads, OnlySpills, OnlyWrites, raised_by, times}
 use Rattle.nd_shape.specs.Block.{Array}
 use Rattle.cluster_msgs.specs.Labels.{LabelFacts}
@@ -32,11 +33,14 @@ use Rattle.job_run.proofs.Counting.{none_raised, raised_at_most}
 use Rattle.job_run.proofs.Running.{left_before, most_before}
 use Rattle.job_run.proofs.SavedKeys.{is-faulty}
 use Rattle.thread_run.specs.Counts.{repeated}
+use Rattle.thread_run.specs.Disks.{AsksUpTo}
 use Rattle.thread_run.specs.Ends.{IsNeededBlock}
 use Rattle.thread_run.specs.Feeding.{OpensOften, TakesBack}
 use Rattle.thread_run.specs.Losses.{IsKill, IsNeededKey, Losses, losses_in}
 use Rattle.thread_run.specs.Serving.{IsUnsaved, IsWhy, ServesAll, ServesFiles, ServesPart, Stops, StopsAt}
 use Rattle.thread_run.proofs.Agreed.{told_run}
+use Rattle.thread_run.proofs.Asking.{asks_after, asks_apart, asks_same, asks_still}
+use Rattle.thread_run.proofs.Openings.{opens-zero}
 use Rattle.thread_run.proofs.Planning.{removes-same}
 use Rattle.thread_run.proofs.SaverEnds.{open-left}
 use Rattle.thread_run.specs.Reports.{IsOutgrown, IsServedRun, IsToldOf, IsToldOfRun, label}

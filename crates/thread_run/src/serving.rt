@@ -15,7 +15,7 @@ ghost use Rattle.job_run.specs.Runs.{IsFitGiven};
 ghost use Rattle.node_runner.specs.Runs.{numbers as numbers_of};
 ghost use Rattle.node_runner.specs.declared.ends.RunStatus.TheVariants as status;
 ghost use Rattle.task_graph.specs.Graphs.{shape_of};
-ghost use Rattle.thread_run.specs.Counts.{feeds as feeds_of};
+ghost use Rattle.thread_run.specs.Counts.{feeds as feeds_of, numbers as numbers_in};
 ghost use Rattle.thread_run.specs.Feeding.{IsFixed};
 ghost use Rattle.thread_run.specs.Losses.{losses_by, losses_in};
 ghost use Rattle.thread_run.specs.Planning.{IsRunPlan};
@@ -435,6 +435,7 @@ fn plan_in(words: RunWords) -> RunPlan
     ensures plan { IsRunPlan result }
     ensures same { IsPlanOf words result }
     ensures feeds { numbers_of result * result.threads ≡ feeds_of words }
+    ensures numbers { numbers_of result ≡ numbers_in words }
 {
     let RunWords {
         job: _,
