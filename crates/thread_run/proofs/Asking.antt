@@ -60,7 +60,7 @@ asks_next last old mid new a b =
     asked w true e =
         let own : w ≡ last + 1 = same_worker (last + 1) w e in
         let still : mid w ≡ old w = a.others w (inr (omega (arith, own))) in
-        let mine : (mid w ≤ new w) × (new w ≤ mid w + 1) = subst (λ x. (mid x ≤ new x) × (new x ≤ mid x + 1)) (sym own) (b.grows, b.once) in
+        let mine : (mid w ≤ new w) × (new w ≤ mid w + 1) = subst (λ (x : ℕ). (mid x ≤ new x) × (new x ≤ mid x + 1)) (sym own) (b.grows, b.once) in
         (omega (arith, still, mine.0), omega (arith, still, mine.1))
     asked w false e = (omega (arith, b.others w e, a.grows w), omega (arith, b.others w e, a.once w))
 
@@ -69,7 +69,7 @@ pub asks_fewer : (few many : ℕ) (old new : ℕ → ℕ) → few ≤ many → A
 asks_fewer few many old new h a = record {
   grows = a.grows;
   once = a.once;
-  others = λ w apart. elim apart [ | inl none ↦ a.others w (inl none) | inr past ↦ a.others w (inr (omega (arith, h, past))) ];
+  others = λ w apart. elim apart [ inl none ↦ a.others w (inl none) | inr past ↦ a.others w (inr (omega (arith, h, past))) ];
 }
 
 -- the asked counts stay afterwards, or before

@@ -63,16 +63,7 @@ fn open_store<S: Site, L: Label<Block = Block>>(
 }
 
 // The stores of the workers up to a number.
-#[tactic(
-    auto,
-    using(
-        io_edge::proofs::Only::spills_none,
-        io_edge::proofs::Only::spills_then,
-        crate::proofs::Asking::asks_fewer,
-        crate::proofs::Asking::asks_next,
-        crate::proofs::Asking::asks_none,
-    )
-)]
+#[tactic(auto, using(io_edge::proofs::Only::spills_then, crate::proofs::Asking::asks_fewer, crate::proofs::Asking::asks_next))]
 fn open_each<S: Site, L: Label<Block = Block>>(
     alloc: Global,
     site: &mut S,
