@@ -1,5 +1,5 @@
 use Rattle.std.proofs.Common.{◌≡◌, ℕ, List, ◌<◌, ◌∙◌, refl, ap, sym, subst, length, get_or, arith}
-use Rattle.io_edge.proofs.Only.{writes_then}
+use Rattle.io_edge.proofs.Only.{writes_none, writes_then}
 use Rattle.std.proofs.lemmas.List.{length-map}
 use Rattle.small_facts.proofs.Results.{on_err_from}
 use Rattle.array_expr.specs.Node.{shape_at}
@@ -17,7 +17,7 @@ loop-save-init g c = record {
       let site = (g.S.Site.view c.args.site.now).files in
       let P : List Saving → Type 0 = λ files. CreatesFirst (plan_of c.args.job.now) 0 site site files in
       subst P (sym c.requires.none) (creates_none (plan_of c.args.job.now) site);
-  only = record { gave = refl; out = refl; err = refl; read_faults = refl; print_faults = refl; note_faults = refl };
+  only = writes_none (g.S.Site.view c.args.site.now);
   later = omega arith;
 }
 
