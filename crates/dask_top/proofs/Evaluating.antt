@@ -27,13 +27,13 @@ use Rattle.job_run.proofs.Running.{left_alone}
 -- ## After it, only standard error got its line
 
 cause_told : (p : Plan) (old mid new : View) (end : Ended) → OnlyErr mid new → RunCause p old mid end → RunCause p old new end
-cause_told p old mid new RunEnds.Done only cause = (cause.0, cause.1, given_later old.gave mid.gave new.gave _ cause.2 (more_same mid.gave new.gave only.gave))
+cause_told p old mid new RunEnds.Done only cause = (cause.0, cause.1, given_later old.gave mid.gave new.gave _ cause.2 (more_same mid.gave new.gave (ap (λ (v : View). v.gave) only.rest)))
 cause_told p old mid new (RunEnds.Limit quantity) only cause = cause
-cause_told p old mid new (RunEnds.File place error) only cause = (cause.0, cause.1, given_later old.gave mid.gave new.gave (λ holds. FirstRefusal p (map holds p.inputs) place error) cause.2 (more_same mid.gave new.gave only.gave))
-cause_told p old mid new (RunEnds.Zero node block) only cause = (cause.0, cause.1, given_later old.gave mid.gave new.gave _ cause.2 (more_same mid.gave new.gave only.gave))
+cause_told p old mid new (RunEnds.File place error) only cause = (cause.0, cause.1, given_later old.gave mid.gave new.gave (λ holds. FirstRefusal p (map holds p.inputs) place error) cause.2 (more_same mid.gave new.gave (ap (λ (v : View). v.gave) only.rest)))
+cause_told p old mid new (RunEnds.Zero node block) only cause = (cause.0, cause.1, given_later old.gave mid.gave new.gave _ cause.2 (more_same mid.gave new.gave (ap (λ (v : View). v.gave) only.rest)))
 cause_told p old mid new (RunEnds.Killed key losses) only cause = absurd cause
-cause_told p old mid new RunEnds.ReadFault only cause = rw only.read_faults cause
-cause_told p old mid new RunEnds.WriteFault only cause = rw (only.write_faults, only.print_faults) cause
+cause_told p old mid new RunEnds.ReadFault only cause = rw (ap (λ (v : View). v.read_faults) only.rest) cause
+cause_told p old mid new RunEnds.WriteFault only cause = rw (ap (λ (v : View). v.write_faults) only.rest, ap (λ (v : View). v.print_faults) only.rest) cause
 cause_told p old mid new RunEnds.OutOfMemory only cause = tt
 
 pub stops_told : (p : Plan) (old mid new : View) (lines : List ℕ) → OnlyErr mid new → StopsPrinting p old mid lines → StopsPrinting p old new lines
@@ -42,24 +42,24 @@ stops_told p old mid new lines only s =
     let O : Option (List ℕ) → Type 0 = λ o. PrintsPart old.out o lines in
     let R : ℕ → Type 0 = λ n. Rose old.print_faults n in
     record {
-      saved = subst S (sym only.files) s.saved;
-      created = ap (λ (x : Files). x.created) only.files ∙ s.created;
-      fault = subst R (sym only.print_faults) s.fault;
-      front = subst O (sym only.out) s.front;
+      saved = subst S (sym (ap (λ (v : View). v.files) only.rest)) s.saved;
+      created = ap (λ (x : Files). x.created) (ap (λ (v : View). v.files) only.rest) ∙ s.created;
+      fault = subst R (sym (ap (λ (v : View). v.print_faults) only.rest)) s.fault;
+      front = subst O (sym (ap (λ (v : View). v.out) only.rest)) s.front;
     }
 
 pub front_told : (p : Plan) (old mid new : View) (lines : List ℕ) → OnlyErr mid new → PrintsFront p old mid lines → PrintsFront p old new lines
-front_told p old mid new lines only prints = elim prints [ inl same ↦ inl (only.out ∙ same) | inr stops ↦ inr (stops.0, stops_told p old mid new lines only stops.1) ]
+front_told p old mid new lines only prints = elim prints [ inl same ↦ inl (ap (λ (v : View). v.out) only.rest ∙ same) | inr stops ↦ inr (stops.0, stops_told p old mid new lines only stops.1) ]
 
 prints_told : (p : Plan) (old mid new : View) (end : Ended) → OnlyErr mid new → RunPrints p old mid end → RunPrints p old new end
-prints_told p old mid new RunEnds.Done only prints = only.out ∙ prints
+prints_told p old mid new RunEnds.Done only prints = ap (λ (v : View). v.out) only.rest ∙ prints
 prints_told p old mid new RunEnds.WriteFault only prints = front_told p old mid new (lines_of p) only prints
-prints_told p old mid new (RunEnds.Limit quantity) only prints = only.out ∙ prints
-prints_told p old mid new (RunEnds.File place error) only prints = only.out ∙ prints
-prints_told p old mid new (RunEnds.Zero node block) only prints = only.out ∙ prints
-prints_told p old mid new (RunEnds.Killed key losses) only prints = only.out ∙ prints
-prints_told p old mid new RunEnds.ReadFault only prints = only.out ∙ prints
-prints_told p old mid new RunEnds.OutOfMemory only prints = only.out ∙ prints
+prints_told p old mid new (RunEnds.Limit quantity) only prints = ap (λ (v : View). v.out) only.rest ∙ prints
+prints_told p old mid new (RunEnds.File place error) only prints = ap (λ (v : View). v.out) only.rest ∙ prints
+prints_told p old mid new (RunEnds.Zero node block) only prints = ap (λ (v : View). v.out) only.rest ∙ prints
+prints_told p old mid new (RunEnds.Killed key losses) only prints = ap (λ (v : View). v.out) only.rest ∙ prints
+prints_told p old mid new RunEnds.ReadFault only prints = ap (λ (v : View). v.out) only.rest ∙ prints
+prints_told p old mid new RunEnds.OutOfMemory only prints = ap (λ (v : View). v.out) only.rest ∙ prints
 
 evaluates_told : (sources : List (List ℕ)) (p : Plan) (old mid new : View) (end : Ended) → OnlyErr mid new → Evaluates sources p old mid end → Evaluates sources p old new end
 evaluates_told sources p old mid new end only e =
@@ -69,11 +69,11 @@ evaluates_told sources p old mid new end only e =
     let C : Files → Type 0 = λ x. RunCreated (names_saved p) old.files.created x.created end in
     record {
       cause = cause_told p old mid new end only e.cause;
-      saves = subst S (sym only.files) e.saves;
-      looked = subst L (sym only.files) e.looked;
-      others = λ n none. ap (λ (x : Files). x.held n) only.files ∙ e.others n none;
-      opened = subst O (sym only.files) e.opened;
-      created = subst C (sym only.files) e.created;
+      saves = subst S (sym (ap (λ (v : View). v.files) only.rest)) e.saves;
+      looked = subst L (sym (ap (λ (v : View). v.files) only.rest)) e.looked;
+      others = λ n none. ap (λ (x : Files). x.held n) (ap (λ (v : View). v.files) only.rest) ∙ e.others n none;
+      opened = subst O (sym (ap (λ (v : View). v.files) only.rest)) e.opened;
+      created = subst C (sym (ap (λ (v : View). v.files) only.rest)) e.created;
       prints = prints_told p old mid new end only e.prints;
     }
 
@@ -163,8 +163,8 @@ values_before p old mid held tells has = record { inputs = fit_before p old mid 
 
 writes_before : (p : Plan) (old mid new : View) → mid.files.held ≡ old.files.held → mid.files.tells ≡ old.files.tells → OnlyReads old mid → WritesFail p mid new → WritesFail p old new
 writes_before p old mid new held tells only fail = elim fail [
-  | inl write ↦ inl (rw (← only.write_faults) write)
-  | inr print ↦ inr (values_before p old.files mid.files held tells print.0, rw (← only.print_faults) print.1)
+  | inl write ↦ inl (rw (← (ap (λ (v : View). v.write_faults) only.rest)) write)
+  | inr print ↦ inr (values_before p old.files mid.files held tells print.0, rw (← (ap (λ (v : View). v.print_faults) only.rest)) print.1)
 ]
 
 pub cause_before : (p : Plan) (old mid new : View) (end : Ended) → mid.files.held ≡ old.files.held → mid.files.tells ≡ old.files.tells → OnlyReads old mid → old.read_faults ≤ mid.read_faults → RunCause p mid new end → RunCause p old new end
@@ -221,25 +221,25 @@ pub stops_before : (p : Plan) (old mid new : View) (lines : List ℕ) → mid.fi
 stops_before p old mid new lines held tells created only s = record {
   saved = saves_before p old.files mid.files new.files RunEnds.Done held tells s.saved;
   created = s.created ∙ ap (raised_by (names_saved p)) created;
-  fault = rw (← only.print_faults) s.fault;
-  front = rw (← only.out) s.front;
+  fault = rw (← (ap (λ (v : View). v.print_faults) only.rest)) s.fault;
+  front = rw (← (ap (λ (v : View). v.out) only.rest)) s.front;
 }
 
 pub front_before : (p : Plan) (old mid new : View) (lines : List ℕ) → mid.files.held ≡ old.files.held → mid.files.tells ≡ old.files.tells → mid.files.created ≡ old.files.created → OnlyReads old mid → PrintsFront p mid new lines → PrintsFront p old new lines
 front_before p old mid new lines held tells created only prints = elim prints [
-  | inl same ↦ inl (same ∙ only.out)
+  | inl same ↦ inl (same ∙ ap (λ (v : View). v.out) only.rest)
   | inr stops ↦ inr (values_before p old.files mid.files held tells stops.0, stops_before p old mid new lines held tells created only stops.1)
 ]
 
 prints_before : (p : Plan) (old mid new : View) (end : Ended) → mid.files.held ≡ old.files.held → mid.files.tells ≡ old.files.tells → mid.files.created ≡ old.files.created → OnlyReads old mid → RunPrints p mid new end → RunPrints p old new end
-prints_before p old mid new RunEnds.Done held tells created only prints = prints ∙ ap (λ o. followed_by o (lines_of p)) only.out
+prints_before p old mid new RunEnds.Done held tells created only prints = prints ∙ ap (λ o. followed_by o (lines_of p)) (ap (λ (v : View). v.out) only.rest)
 prints_before p old mid new RunEnds.WriteFault held tells created only prints = front_before p old mid new (lines_of p) held tells created only prints
-prints_before p old mid new (RunEnds.Limit quantity) held tells created only prints = prints ∙ only.out
-prints_before p old mid new (RunEnds.File place error) held tells created only prints = prints ∙ only.out
-prints_before p old mid new (RunEnds.Zero node block) held tells created only prints = prints ∙ only.out
-prints_before p old mid new (RunEnds.Killed key losses) held tells created only prints = prints ∙ only.out
-prints_before p old mid new RunEnds.ReadFault held tells created only prints = prints ∙ only.out
-prints_before p old mid new RunEnds.OutOfMemory held tells created only prints = prints ∙ only.out
+prints_before p old mid new (RunEnds.Limit quantity) held tells created only prints = prints ∙ (ap (λ (v : View). v.out) only.rest)
+prints_before p old mid new (RunEnds.File place error) held tells created only prints = prints ∙ (ap (λ (v : View). v.out) only.rest)
+prints_before p old mid new (RunEnds.Zero node block) held tells created only prints = prints ∙ (ap (λ (v : View). v.out) only.rest)
+prints_before p old mid new (RunEnds.Killed key losses) held tells created only prints = prints ∙ (ap (λ (v : View). v.out) only.rest)
+prints_before p old mid new RunEnds.ReadFault held tells created only prints = prints ∙ (ap (λ (v : View). v.out) only.rest)
+prints_before p old mid new RunEnds.OutOfMemory held tells created only prints = prints ∙ (ap (λ (v : View). v.out) only.rest)
 
 evaluates : (names : List (List ℕ)) (p : Plan) (old mid new : View) (read : List ℕ) (end : Ended) → TextRead names old mid read → RunsPlan p mid new end → Evaluates names p old new end
 evaluates names p old mid new read end t runs =
@@ -260,8 +260,9 @@ pub run_performs : (names : List (List ℕ)) (p : Plan) (old mid done new : View
 run_performs names p old mid done new end now j runs told only notes = record {
   reading = Some (Ok p);
   read = is_read names old mid j.read (Ok p) j.text j.says;
-  given = is_given names old mid new j.read (Ok p) j.text j.says (more_then mid.gave done.gave new.gave runs.gave (more_same done.gave new.gave only.gave));
+  given = is_given names old mid new j.read (Ok p) j.text j.says (more_then mid.gave done.gave new.gave runs.gave (more_same done.gave new.gave (ap (λ (v : View). v.gave) only.rest)));
   does = evaluated names p old done new end now told only (evaluates names p old mid done j.read end j.text runs);
-  tells = ap (λ (x : Files). x.tells) only.files ∙ (runs.tells ∙ j.text.opens.tells);
-  notes = notes_before (Some (Ok p)) old done new now (runs.err ∙ j.text.only.err) (runs.note_faults ∙ j.text.only.note_faults) notes;
+  tells = ap (λ (x : Files). x.tells) (ap (λ (v : View). v.files) only.rest) ∙ (runs.tells ∙ j.text.opens.tells);
+  disks = ap (λ (v : View). v.spills) only.rest ∙ (runs.spills ∙ ap (λ (v : View). v.spills) j.text.only.rest);
+  notes = notes_before (Some (Ok p)) old done new now (runs.err ∙ ap (λ (v : View). v.err) j.text.only.rest) (runs.note_faults ∙ ap (λ (v : View). v.note_faults) j.text.only.rest) notes;
 }

@@ -1,5 +1,5 @@
 -- The job that a number makes: what came of its simulation, and what was printed of that.
-use Rattle.std.proofs.Common.{◌≡◌, ℕ, List, sym, ◌∙◌, subst, Option, None}
+use Rattle.std.proofs.Common.{◌≡◌, ℕ, List, ap, sym, ◌∙◌, subst, Option, None}
 use Rattle.io_edge.specs.Cause.{Rose}
 use Rattle.io_edge.specs.Content.{PrintsPart, followed_by}
 use Rattle.io_edge.specs.View.{OnlyErr, OnlyOut, View}
@@ -44,16 +44,17 @@ only_noted w old new end now not cause prints told only notes =
     record {
       cause = subst C (sym same) cause;
       prints = subst P (sym same) prints;
-      files = only.files;
-      gave = only.gave;
-      read_faults = only.read_faults;
-      write_faults = only.write_faults;
+      files = ap (λ (v : View). v.files) only.rest;
+      gave = ap (λ (v : View). v.gave) only.rest;
+      spills = ap (λ (v : View). v.spills) only.rest;
+      read_faults = ap (λ (v : View). v.read_faults) only.rest;
+      write_faults = ap (λ (v : View). v.write_faults) only.rest;
       notes = notes None;
     }
 
 pub stops : (w : GenWords) (old new : View) (end : GenEnded) (now : End) → IsGenCause w end → Told (gen_end_of end) now → OnlyErr old new → ((r : Reading) → Notes r old new now) → Generates w old new now
-stops w old new GenEnds.Events now cause told only notes = only_noted w old new Events now (λ r. r) cause only.out told only notes
-stops w old new GenEnds.OutOfMemory now cause told only notes = only_noted w old new OutOfMemory now (λ r. r) tt only.out told only notes
+stops w old new GenEnds.Events now cause told only notes = only_noted w old new Events now (λ r. r) cause (ap (λ (v : View). v.out) only.rest) told only notes
+stops w old new GenEnds.OutOfMemory now cause told only notes = only_noted w old new OutOfMemory now (λ r. r) tt (ap (λ (v : View). v.out) only.rest) told only notes
 
 -- ## The lines were printed
 
@@ -61,11 +62,12 @@ pub prints_all : (w : GenWords) (old new : View) (lines : List ℕ) → TellsNum
 prints_all w old new lines told only printed = record {
   cause = tt;
   prints = record { lines = lines; tells = told; printed = printed };
-  files = only.files;
-  gave = only.gave;
-  read_faults = only.read_faults;
-  write_faults = only.write_faults;
-  notes = only.err;
+  files = ap (λ (v : View). v.files) only.rest;
+  gave = ap (λ (v : View). v.gave) only.rest;
+  spills = ap (λ (v : View). v.spills) only.rest;
+  read_faults = ap (λ (v : View). v.read_faults) only.rest;
+  write_faults = ap (λ (v : View). v.write_faults) only.rest;
+  notes = ap (λ (v : View). v.err) only.rest;
 }
 
 -- or a front of them, and then the end got its line
@@ -78,11 +80,12 @@ prints_front w old mid new lines now tells_of out part rose told only notes =
     let R : ℕ → Type 0 = λ n. Rose old.print_faults n in
     let O : Option (List ℕ) → Type 0 = λ o. PrintsPart old.out o lines in
     record {
-      cause = subst C (sym same) (subst R (sym only.print_faults) rose);
-      prints = subst P (sym same) (record { lines = lines; tells = tells_of; printed = subst O (sym only.out) part });
-      files = only.files ∙ out.files;
-      gave = only.gave ∙ out.gave;
-      read_faults = only.read_faults ∙ out.read_faults;
-      write_faults = only.write_faults ∙ out.write_faults;
-      notes = notes_before None old mid new now out.err out.note_faults (notes None);
+      cause = subst C (sym same) (subst R (sym (ap (λ (v : View). v.print_faults) only.rest)) rose);
+      prints = subst P (sym same) (record { lines = lines; tells = tells_of; printed = subst O (sym (ap (λ (v : View). v.out) only.rest)) part });
+      files = ap (λ (v : View). v.files) only.rest ∙ ap (λ (v : View). v.files) out.rest;
+      gave = ap (λ (v : View). v.gave) only.rest ∙ ap (λ (v : View). v.gave) out.rest;
+      spills = ap (λ (v : View). v.spills) only.rest ∙ ap (λ (v : View). v.spills) out.rest;
+      read_faults = ap (λ (v : View). v.read_faults) only.rest ∙ ap (λ (v : View). v.read_faults) out.rest;
+      write_faults = ap (λ (v : View). v.write_faults) only.rest ∙ ap (λ (v : View). v.write_faults) out.rest;
+      notes = notes_before None old mid new now (ap (λ (v : View). v.err) out.rest) (ap (λ (v : View). v.note_faults) out.rest) (notes None);
     }

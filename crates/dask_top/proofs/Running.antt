@@ -12,7 +12,7 @@ use Rattle.job_run.specs.Inputs.{FirstRefusal}
 use Rattle.job_run.specs.Plan.{Plan, names_saved}
 use Rattle.job_run.specs.Runs.{AreRight, Created, StopsPrinting}
 use Rattle.job_run.proofs.Counting.{times-append}
-use Rattle.thread_run.specs.Counts.{RaisedBetween, feeds, repeated}
+use Rattle.thread_run.specs.Counts.{RaisedBetween, feeds, numbers, repeated}
 use Rattle.thread_run.specs.Ends.{Cause, HasValues, Saves, Opened, Looked, Prints, PrintsRun, IsOutgrownRun, LeavesAs, RunsByThreads, WritesFail, left_as, lines_of, openings}
 use Rattle.thread_run.specs.Losses.{losses_by}
 use Rattle.thread_run.specs.Reports.{IsToldRun}
@@ -20,6 +20,7 @@ use Rattle.thread_run.specs.declared.ends.ThreadEnded.{ThreadEnded}
 use Rattle.thread_run.specs.declared.ends.ThreadEnded.TheVariants as ThreadEnds
 use Rattle.thread_run.specs.declared.verdict.Told.{Told as ToldOfRun}
 use Rattle.thread_run.proofs.Serves.{kill-as}
+use Rattle.thread_run.proofs.Asking.{asks_after, asks_still}
 use Rattle.dask_top.specs.declared.answer.End.{End}
 use Rattle.dask_top.specs.Answers.{Performs}
 use Rattle.dask_top.specs.Commands.{Running}
@@ -36,17 +37,17 @@ use Rattle.job_run.proofs.Running.{left_alone}
 -- ## After it, only standard error got its line
 
 cause_told : (p : Plan) (said : RunWords) (old mid new : View) (end : Ended) → OnlyErr mid new → Cause p said old mid end → Cause p said old new end
-cause_told p said old mid new RunEnds.Done only cause = (cause.0, cause.1, given_later old.gave mid.gave new.gave _ cause.2 (more_same mid.gave new.gave only.gave))
+cause_told p said old mid new RunEnds.Done only cause = (cause.0, cause.1, given_later old.gave mid.gave new.gave _ cause.2 (more_same mid.gave new.gave (ap (λ (v : View). v.gave) only.rest)))
 cause_told p said old mid new (RunEnds.Limit quantity) only cause = cause
-cause_told p said old mid new (RunEnds.File place error) only cause = (cause.0, cause.1, given_later old.gave mid.gave new.gave (λ holds. FirstRefusal p (map holds p.inputs) place error) cause.2 (more_same mid.gave new.gave only.gave))
-cause_told p said old mid new (RunEnds.Zero node block) only cause = (cause.0, cause.1, given_later old.gave mid.gave new.gave _ cause.2 (more_same mid.gave new.gave only.gave))
+cause_told p said old mid new (RunEnds.File place error) only cause = (cause.0, cause.1, given_later old.gave mid.gave new.gave (λ holds. FirstRefusal p (map holds p.inputs) place error) cause.2 (more_same mid.gave new.gave (ap (λ (v : View). v.gave) only.rest)))
+cause_told p said old mid new (RunEnds.Zero node block) only cause = (cause.0, cause.1, given_later old.gave mid.gave new.gave _ cause.2 (more_same mid.gave new.gave (ap (λ (v : View). v.gave) only.rest)))
 cause_told p said old mid new (RunEnds.Killed key losses) only cause = (
   cause.0,
-  record { inputs = cause.1.inputs; needed = cause.1.needed; kill = rw only.read_faults cause.1.kill },
-  given_later old.gave mid.gave new.gave _ cause.2 (more_same mid.gave new.gave only.gave),
+  record { inputs = cause.1.inputs; needed = cause.1.needed; kill = rw (ap (λ (v : View). v.read_faults) only.rest) cause.1.kill },
+  given_later old.gave mid.gave new.gave _ cause.2 (more_same mid.gave new.gave (ap (λ (v : View). v.gave) only.rest)),
 )
-cause_told p said old mid new RunEnds.ReadFault only cause = rw only.read_faults cause
-cause_told p said old mid new RunEnds.WriteFault only cause = rw (only.write_faults, only.print_faults) cause
+cause_told p said old mid new RunEnds.ReadFault only cause = rw (ap (λ (v : View). v.read_faults) only.rest) cause
+cause_told p said old mid new RunEnds.WriteFault only cause = rw (ap (λ (v : View). v.write_faults) only.rest, ap (λ (v : View). v.print_faults) only.rest) cause
 cause_told p said old mid new RunEnds.OutOfMemory only cause = tt
 
 -- what is told of a run over files is told of it over files that hold the same
@@ -60,17 +61,17 @@ over_run p said old mid held tells P Q f r = record { told = r.told; asked = r.a
 
 prints_told : (p : Plan) (said : RunWords) (old mid new : View) (end : Ended) → OnlyErr mid new → Prints p said old mid end → Prints p said old new end
 prints_told p said old mid new RunEnds.Done only prints =
-    over_run p said old.files old.files refl refl (λ lines. mid.out ≡ followed_by old.out lines) (λ lines. new.out ≡ followed_by old.out lines) (λ lines printed. only.out ∙ printed) prints
+    over_run p said old.files old.files refl refl (λ lines. mid.out ≡ followed_by old.out lines) (λ lines. new.out ≡ followed_by old.out lines) (λ lines printed. (ap (λ (v : View). v.out) only.rest) ∙ printed) prints
 prints_told p said old mid new RunEnds.WriteFault only prints = elim prints [
-  | inl same ↦ inl (only.out ∙ same)
+  | inl same ↦ inl (ap (λ (v : View). v.out) only.rest ∙ same)
   | inr run ↦ inr (run.0, over_run p said old.files old.files refl refl (StopsPrinting p old mid) (StopsPrinting p old new) (λ lines stops. stops_told p old mid new lines only stops) run.1)
 ]
-prints_told p said old mid new (RunEnds.Limit quantity) only prints = only.out ∙ prints
-prints_told p said old mid new (RunEnds.File place error) only prints = only.out ∙ prints
-prints_told p said old mid new (RunEnds.Zero node block) only prints = only.out ∙ prints
-prints_told p said old mid new (RunEnds.Killed key losses) only prints = only.out ∙ prints
-prints_told p said old mid new RunEnds.ReadFault only prints = only.out ∙ prints
-prints_told p said old mid new RunEnds.OutOfMemory only prints = only.out ∙ prints
+prints_told p said old mid new (RunEnds.Limit quantity) only prints = ap (λ (v : View). v.out) only.rest ∙ prints
+prints_told p said old mid new (RunEnds.File place error) only prints = ap (λ (v : View). v.out) only.rest ∙ prints
+prints_told p said old mid new (RunEnds.Zero node block) only prints = ap (λ (v : View). v.out) only.rest ∙ prints
+prints_told p said old mid new (RunEnds.Killed key losses) only prints = ap (λ (v : View). v.out) only.rest ∙ prints
+prints_told p said old mid new RunEnds.ReadFault only prints = ap (λ (v : View). v.out) only.rest ∙ prints
+prints_told p said old mid new RunEnds.OutOfMemory only prints = ap (λ (v : View). v.out) only.rest ∙ prints
 
 runs_told : (sources : List (List ℕ)) (p : Plan) (said : RunWords) (old mid new : View) (end : Ended) → OnlyErr mid new → Runs sources p said old mid end
     → Runs sources p said old new end
@@ -81,11 +82,11 @@ runs_told sources p said old mid new end only e =
     let C : Files → Type 0 = λ x. Created (names_saved p) old.files.created x.created end in
     record {
       cause = cause_told p said old mid new end only e.cause;
-      saves = subst S (sym only.files) e.saves;
-      looked = subst L (sym only.files) e.looked;
-      others = λ n none. ap (λ (x : Files). x.held n) only.files ∙ e.others n none;
-      opened = subst O (sym only.files) e.opened;
-      created = subst C (sym only.files) e.created;
+      saves = subst S (sym (ap (λ (v : View). v.files) only.rest)) e.saves;
+      looked = subst L (sym (ap (λ (v : View). v.files) only.rest)) e.looked;
+      others = λ n none. ap (λ (x : Files). x.held n) (ap (λ (v : View). v.files) only.rest) ∙ e.others n none;
+      opened = subst O (sym (ap (λ (v : View). v.files) only.rest)) e.opened;
+      created = subst C (sym (ap (λ (v : View). v.files) only.rest)) e.created;
       prints = prints_told p said old mid new end only e.prints;
     }
 
@@ -166,8 +167,8 @@ values_first p old mid held tells has = record { inputs = fit_before p old mid h
 
 writes_first : (p : Plan) (old mid new : View) → mid.files.held ≡ old.files.held → mid.files.tells ≡ old.files.tells → OnlyReads old mid → WritesFail p mid new → WritesFail p old new
 writes_first p old mid new held tells only fail = elim fail [
-  | inl write ↦ inl (rw (← only.write_faults) write)
-  | inr print ↦ inr (values_first p old.files mid.files held tells print.0, rw (← only.print_faults) print.1)
+  | inl write ↦ inl (rw (← (ap (λ (v : View). v.write_faults) only.rest)) write)
+  | inr print ↦ inr (values_first p old.files mid.files held tells print.0, rw (← (ap (λ (v : View). v.print_faults) only.rest)) print.1)
 ]
 
 cause_first : (p : Plan) (said : RunWords) (old mid new : View) (end : Ended) → mid.files.held ≡ old.files.held → mid.files.tells ≡ old.files.tells → OnlyReads old mid → old.read_faults ≤ mid.read_faults → Cause p said mid new end
@@ -240,20 +241,20 @@ prints_first : (p : Plan) (said : RunWords) (old mid new : View) (end : Ended) �
     → Prints p said mid new end → Prints p said old new end
 prints_first p said old mid new RunEnds.Done held tells created only prints =
     over_run p said old.files mid.files held tells (λ lines. new.out ≡ followed_by mid.out lines) (λ lines. new.out ≡ followed_by old.out lines)
-    (λ lines printed. printed ∙ ap (λ o. followed_by o lines) only.out) prints
+    (λ lines printed. printed ∙ ap (λ o. followed_by o lines) (ap (λ (v : View). v.out) only.rest)) prints
 prints_first p said old mid new RunEnds.WriteFault held tells created only prints = elim prints [
-  | inl same ↦ inl (same ∙ only.out)
+  | inl same ↦ inl (same ∙ ap (λ (v : View). v.out) only.rest)
   | inr run ↦ inr (
     values_first p old.files mid.files held tells run.0,
     over_run p said old.files mid.files held tells (StopsPrinting p mid new) (StopsPrinting p old new) (λ lines stops. stops_before p old mid new lines held tells created only stops) run.1,
   )
 ]
-prints_first p said old mid new (RunEnds.Limit quantity) held tells created only prints = prints ∙ only.out
-prints_first p said old mid new (RunEnds.File place error) held tells created only prints = prints ∙ only.out
-prints_first p said old mid new (RunEnds.Zero node block) held tells created only prints = prints ∙ only.out
-prints_first p said old mid new (RunEnds.Killed key losses) held tells created only prints = prints ∙ only.out
-prints_first p said old mid new RunEnds.ReadFault held tells created only prints = prints ∙ only.out
-prints_first p said old mid new RunEnds.OutOfMemory held tells created only prints = prints ∙ only.out
+prints_first p said old mid new (RunEnds.Limit quantity) held tells created only prints = prints ∙ (ap (λ (v : View). v.out) only.rest)
+prints_first p said old mid new (RunEnds.File place error) held tells created only prints = prints ∙ (ap (λ (v : View). v.out) only.rest)
+prints_first p said old mid new (RunEnds.Zero node block) held tells created only prints = prints ∙ (ap (λ (v : View). v.out) only.rest)
+prints_first p said old mid new (RunEnds.Killed key losses) held tells created only prints = prints ∙ (ap (λ (v : View). v.out) only.rest)
+prints_first p said old mid new RunEnds.ReadFault held tells created only prints = prints ∙ (ap (λ (v : View). v.out) only.rest)
+prints_first p said old mid new RunEnds.OutOfMemory held tells created only prints = prints ∙ (ap (λ (v : View). v.out) only.rest)
 
 runs : (names : List (List ℕ)) (p : Plan) (said : RunWords) (old mid new : View) (read : List ℕ) (end : Ended) → TextRead names old mid read → LeavesAs p said mid new end → Runs names p said old new end
 runs names p said old mid new read end t by =
@@ -286,11 +287,13 @@ pub threads_perform : (names : List (List ℕ)) (p : Plan) (said : RunWords) (ol
 threads_perform names p said old mid done new end now j by told only notes = record {
   reading = Some (Ok p);
   read = is_read names old mid j.read (Ok p) j.text j.says;
-  given = is_given names old mid new j.read (Ok p) j.text j.says (more_then mid.gave done.gave new.gave by.leaves.gave (more_same done.gave new.gave only.gave));
+  given = is_given names old mid new j.read (Ok p) j.text j.says (more_then mid.gave done.gave new.gave by.leaves.gave (more_same done.gave new.gave (ap (λ (v : View). v.gave) only.rest)));
   does = run_told names p said old done new end now told only (record {
     runs = runs names p said old mid done j.read (left_as end) j.text by.leaves;
     events = λ is. outgrown_first p said old.files mid.files j.text.opens.held j.text.opens.tells (by.events is);
   });
-  tells = ap (λ (x : Files). x.tells) only.files ∙ (by.leaves.tells ∙ j.text.opens.tells);
-  notes = notes_before (Some (Ok p)) old done new now (by.leaves.err ∙ j.text.only.err) (by.leaves.note_faults ∙ j.text.only.note_faults) notes;
+  tells = ap (λ (x : Files). x.tells) (ap (λ (v : View). v.files) only.rest) ∙ (by.leaves.tells ∙ j.text.opens.tells);
+  disks = asks_still (numbers said) old.spills.asked done.spills.asked new.spills.asked
+      (asks_after (numbers said) old.spills.asked mid.spills.asked done.spills.asked (ap (λ (v : View). v.spills.asked) j.text.only.rest) by.leaves.asks) (ap (λ (v : View). v.spills.asked) only.rest);
+  notes = notes_before (Some (Ok p)) old done new now (by.leaves.err ∙ ap (λ (v : View). v.err) j.text.only.rest) (by.leaves.note_faults ∙ ap (λ (v : View). v.note_faults) j.text.only.rest) notes;
 }

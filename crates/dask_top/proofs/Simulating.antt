@@ -34,25 +34,25 @@ cause_told : (p : Plan) (said : SimWords) (old mid new : View) (end : SimEnded) 
 cause_told p said old mid new SimEnds.Events only cause = cause
 cause_told p said old mid new (SimEnds.Ran RunEnds.Done) only cause = cause
 cause_told p said old mid new (SimEnds.Ran (RunEnds.Limit quantity)) only cause = cause
-cause_told p said old mid new (SimEnds.Ran (RunEnds.File place error)) only cause = (cause.0, cause.1, given_later old.gave mid.gave new.gave (λ holds. FirstRefusal p (map holds p.inputs) place error) cause.2 (more_same mid.gave new.gave only.gave))
+cause_told p said old mid new (SimEnds.Ran (RunEnds.File place error)) only cause = (cause.0, cause.1, given_later old.gave mid.gave new.gave (λ holds. FirstRefusal p (map holds p.inputs) place error) cause.2 (more_same mid.gave new.gave (ap (λ (v : View). v.gave) only.rest)))
 cause_told p said old mid new (SimEnds.Ran (RunEnds.Zero node block)) only cause = cause
 cause_told p said old mid new (SimEnds.Ran (RunEnds.Killed key losses)) only cause = cause
-cause_told p said old mid new (SimEnds.Ran RunEnds.ReadFault) only cause = rw only.read_faults cause
-cause_told p said old mid new (SimEnds.Ran RunEnds.WriteFault) only cause = rw (only.write_faults, only.print_faults) cause
+cause_told p said old mid new (SimEnds.Ran RunEnds.ReadFault) only cause = rw (ap (λ (v : View). v.read_faults) only.rest) cause
+cause_told p said old mid new (SimEnds.Ran RunEnds.WriteFault) only cause = rw (ap (λ (v : View). v.write_faults) only.rest, ap (λ (v : View). v.print_faults) only.rest) cause
 cause_told p said old mid new (SimEnds.Ran RunEnds.OutOfMemory) only cause = tt
 
 prints_told : (p : Plan) (said : SimWords) (old mid new : View) (end : SimEnded) → OnlyErr mid new → SimPrints p said old mid end → SimPrints p said old new end
-prints_told p said old mid new SimEnds.Events only prints = only.out ∙ prints
+prints_told p said old mid new SimEnds.Events only prints = ap (λ (v : View). v.out) only.rest ∙ prints
 prints_told p said old mid new (SimEnds.Ran RunEnds.Done) only prints =
-    prints_over p said old.files old.files refl (λ fit. fit) (λ lines. mid.out ≡ followed_by old.out lines) (λ lines. new.out ≡ followed_by old.out lines) (λ lines printed. only.out ∙ printed) prints
+    prints_over p said old.files old.files refl (λ fit. fit) (λ lines. mid.out ≡ followed_by old.out lines) (λ lines. new.out ≡ followed_by old.out lines) (λ lines printed. (ap (λ (v : View). v.out) only.rest) ∙ printed) prints
 prints_told p said old mid new (SimEnds.Ran RunEnds.WriteFault) only prints =
     prints_over p said old.files old.files refl (λ fit. fit) (PrintsFront p old mid) (PrintsFront p old new) (λ lines printed. front_told p old mid new lines only printed) prints
-prints_told p said old mid new (SimEnds.Ran (RunEnds.Limit quantity)) only prints = only.out ∙ prints
-prints_told p said old mid new (SimEnds.Ran (RunEnds.File place error)) only prints = only.out ∙ prints
-prints_told p said old mid new (SimEnds.Ran (RunEnds.Zero node block)) only prints = only.out ∙ prints
-prints_told p said old mid new (SimEnds.Ran (RunEnds.Killed key losses)) only prints = only.out ∙ prints
-prints_told p said old mid new (SimEnds.Ran RunEnds.ReadFault) only prints = only.out ∙ prints
-prints_told p said old mid new (SimEnds.Ran RunEnds.OutOfMemory) only prints = only.out ∙ prints
+prints_told p said old mid new (SimEnds.Ran (RunEnds.Limit quantity)) only prints = ap (λ (v : View). v.out) only.rest ∙ prints
+prints_told p said old mid new (SimEnds.Ran (RunEnds.File place error)) only prints = ap (λ (v : View). v.out) only.rest ∙ prints
+prints_told p said old mid new (SimEnds.Ran (RunEnds.Zero node block)) only prints = ap (λ (v : View). v.out) only.rest ∙ prints
+prints_told p said old mid new (SimEnds.Ran (RunEnds.Killed key losses)) only prints = ap (λ (v : View). v.out) only.rest ∙ prints
+prints_told p said old mid new (SimEnds.Ran RunEnds.ReadFault) only prints = ap (λ (v : View). v.out) only.rest ∙ prints
+prints_told p said old mid new (SimEnds.Ran RunEnds.OutOfMemory) only prints = ap (λ (v : View). v.out) only.rest ∙ prints
 
 simulates_told : (sources : List (List ℕ)) (p : Plan) (said : SimWords) (old mid new : View) (end : SimEnded) → OnlyErr mid new → Simulates sources p said old mid end → Simulates sources p said old new end
 simulates_told sources p said old mid new end only e =
@@ -62,11 +62,11 @@ simulates_told sources p said old mid new end only e =
     let C : Files → Type 0 = λ x. SimCreated (names_saved p) old.files.created x.created end in
     record {
       cause = cause_told p said old mid new end only e.cause;
-      saves = subst S (sym only.files) e.saves;
-      looked = subst L (sym only.files) e.looked;
-      others = λ n none. ap (λ (x : Files). x.held n) only.files ∙ e.others n none;
-      opened = subst O (sym only.files) e.opened;
-      created = subst C (sym only.files) e.created;
+      saves = subst S (sym (ap (λ (v : View). v.files) only.rest)) e.saves;
+      looked = subst L (sym (ap (λ (v : View). v.files) only.rest)) e.looked;
+      others = λ n none. ap (λ (x : Files). x.held n) (ap (λ (v : View). v.files) only.rest) ∙ e.others n none;
+      opened = subst O (sym (ap (λ (v : View). v.files) only.rest)) e.opened;
+      created = subst C (sym (ap (λ (v : View). v.files) only.rest)) e.created;
       prints = prints_told p said old mid new end only e.prints;
     }
 
@@ -132,7 +132,7 @@ sim_cause_before p said old mid new (SimEnds.Ran (RunEnds.Killed key losses)) he
   told_over p said old.files mid.files held (fit_before p old.files mid.files held tells) (λ job wanted s. IsKilled job wanted s key) cause.3,
 )
 sim_cause_before p said old mid new (SimEnds.Ran RunEnds.ReadFault) held tells only later cause = cause_before p old mid new RunEnds.ReadFault held tells only later cause
-sim_cause_before p said old mid new (SimEnds.Ran RunEnds.WriteFault) held tells only later cause = (cause.0, values_before p old.files mid.files held tells cause.1, rw (← only.write_faults, ← only.print_faults) cause.2)
+sim_cause_before p said old mid new (SimEnds.Ran RunEnds.WriteFault) held tells only later cause = (cause.0, values_before p old.files mid.files held tells cause.1, rw (← (ap (λ (v : View). v.write_faults) only.rest), ← (ap (λ (v : View). v.print_faults) only.rest)) cause.2)
 sim_cause_before p said old mid new (SimEnds.Ran RunEnds.OutOfMemory) held tells only later cause = tt
 
 ran_saves_before : (p : Plan) (old mid new : Files) (end : Ended) → mid.held ≡ old.held → mid.tells ≡ old.tells → RanSaves p mid new end → RanSaves p old new end
@@ -157,17 +157,17 @@ sim_created_before : (names : List (List ℕ)) (old mid new : List ℕ → ℕ) 
 sim_created_before names old mid new end same created = let C : (List ℕ → ℕ) → Type 0 = λ f. SimCreated names f new end in subst C same created
 
 sim_prints_before : (p : Plan) (said : SimWords) (old mid new : View) (end : SimEnded) → mid.files.held ≡ old.files.held → mid.files.tells ≡ old.files.tells → mid.files.created ≡ old.files.created → OnlyReads old mid → SimPrints p said mid new end → SimPrints p said old new end
-sim_prints_before p said old mid new SimEnds.Events held tells created only prints = prints ∙ only.out
+sim_prints_before p said old mid new SimEnds.Events held tells created only prints = prints ∙ (ap (λ (v : View). v.out) only.rest)
 sim_prints_before p said old mid new (SimEnds.Ran RunEnds.Done) held tells created only prints =
-    prints_over p said old.files mid.files held (fit_before p old.files mid.files held tells) (λ lines. new.out ≡ followed_by mid.out lines) (λ lines. new.out ≡ followed_by old.out lines) (λ lines printed. printed ∙ ap (λ o. followed_by o lines) only.out) prints
+    prints_over p said old.files mid.files held (fit_before p old.files mid.files held tells) (λ lines. new.out ≡ followed_by mid.out lines) (λ lines. new.out ≡ followed_by old.out lines) (λ lines printed. printed ∙ ap (λ o. followed_by o lines) (ap (λ (v : View). v.out) only.rest)) prints
 sim_prints_before p said old mid new (SimEnds.Ran RunEnds.WriteFault) held tells created only prints =
     prints_over p said old.files mid.files held (fit_before p old.files mid.files held tells) (PrintsFront p mid new) (PrintsFront p old new) (λ lines printed. front_before p old mid new lines held tells created only printed) prints
-sim_prints_before p said old mid new (SimEnds.Ran (RunEnds.Limit quantity)) held tells created only prints = prints ∙ only.out
-sim_prints_before p said old mid new (SimEnds.Ran (RunEnds.File place error)) held tells created only prints = prints ∙ only.out
-sim_prints_before p said old mid new (SimEnds.Ran (RunEnds.Zero node block)) held tells created only prints = prints ∙ only.out
-sim_prints_before p said old mid new (SimEnds.Ran (RunEnds.Killed key losses)) held tells created only prints = prints ∙ only.out
-sim_prints_before p said old mid new (SimEnds.Ran RunEnds.ReadFault) held tells created only prints = prints ∙ only.out
-sim_prints_before p said old mid new (SimEnds.Ran RunEnds.OutOfMemory) held tells created only prints = prints ∙ only.out
+sim_prints_before p said old mid new (SimEnds.Ran (RunEnds.Limit quantity)) held tells created only prints = prints ∙ (ap (λ (v : View). v.out) only.rest)
+sim_prints_before p said old mid new (SimEnds.Ran (RunEnds.File place error)) held tells created only prints = prints ∙ (ap (λ (v : View). v.out) only.rest)
+sim_prints_before p said old mid new (SimEnds.Ran (RunEnds.Zero node block)) held tells created only prints = prints ∙ (ap (λ (v : View). v.out) only.rest)
+sim_prints_before p said old mid new (SimEnds.Ran (RunEnds.Killed key losses)) held tells created only prints = prints ∙ (ap (λ (v : View). v.out) only.rest)
+sim_prints_before p said old mid new (SimEnds.Ran RunEnds.ReadFault) held tells created only prints = prints ∙ (ap (λ (v : View). v.out) only.rest)
+sim_prints_before p said old mid new (SimEnds.Ran RunEnds.OutOfMemory) held tells created only prints = prints ∙ (ap (λ (v : View). v.out) only.rest)
 
 simulates : (names : List (List ℕ)) (p : Plan) (said : SimWords) (old mid new : View) (read : List ℕ) (end : SimEnded) → TextRead names old mid read → SimulatesPlan p said mid new end → Simulates names p said old new end
 simulates names p said old mid new read end t sims =
@@ -187,8 +187,9 @@ pub sim_performs : (names : List (List ℕ)) (p : Plan) (said : SimWords) (old m
 sim_performs names p said old mid done new end now j sims told only notes = record {
   reading = Some (Ok p);
   read = is_read names old mid j.read (Ok p) j.text j.says;
-  given = is_given names old mid new j.read (Ok p) j.text j.says (more_then mid.gave done.gave new.gave sims.gave (more_same done.gave new.gave only.gave));
+  given = is_given names old mid new j.read (Ok p) j.text j.says (more_then mid.gave done.gave new.gave sims.gave (more_same done.gave new.gave (ap (λ (v : View). v.gave) only.rest)));
   does = simulated names p said old done new end now told only (simulates names p said old mid done j.read end j.text sims);
-  tells = ap (λ (x : Files). x.tells) only.files ∙ (sims.tells ∙ j.text.opens.tells);
-  notes = notes_before (Some (Ok p)) old done new now (sims.err ∙ j.text.only.err) (sims.note_faults ∙ j.text.only.note_faults) notes;
+  tells = ap (λ (x : Files). x.tells) (ap (λ (v : View). v.files) only.rest) ∙ (sims.tells ∙ j.text.opens.tells);
+  disks = ap (λ (v : View). v.spills) only.rest ∙ (sims.spills ∙ ap (λ (v : View). v.spills) j.text.only.rest);
+  notes = notes_before (Some (Ok p)) old done new now (sims.err ∙ ap (λ (v : View). v.err) j.text.only.rest) (sims.note_faults ∙ ap (λ (v : View). v.note_faults) j.text.only.rest) notes;
 }

@@ -44,12 +44,12 @@ told_same wanted now not told = elim told [ inl same ↦ same | inr refused ↦ 
 -- ## The text wasn't read
 
 untouched : (names : List (List ℕ)) (old mid new : View) → Opens names old.files mid.files → OnlyErr mid new → AreUntouched old.files new.files
-untouched names old mid new opens only = record { held = ap (λ (x : Files). x.held) only.files ∙ opens.held; created = ap (λ (x : Files). x.created) only.files ∙ opens.created }
+untouched names old mid new opens only = record { held = ap (λ (x : Files). x.held) (ap (λ (v : View). v.files) only.rest) ∙ opens.held; created = ap (λ (x : Files). x.created) (ap (λ (v : View). v.files) only.rest) ∙ opens.created }
 
 unread : (names : List (List ℕ)) (old mid new : View) (end : End) → Opens names old.files mid.files → OnlyReads old mid → OnlyErr mid new → UnreadCause old new end → StaysUnread names old new end
 unread names old mid new end opens reads only cause =
     let O : Files → Type 0 = λ x. RaisedAtMost names old.files.opened x.opened in
-    record { cause = cause; untouched = untouched names old mid new opens only; opened = subst O (sym only.files) (opened_most names old.files mid.files opens); prints = only.out ∙ reads.out }
+    record { cause = cause; untouched = untouched names old mid new opens only; opened = subst O (sym (ap (λ (v : View). v.files) only.rest)) (opened_most names old.files mid.files opens); prints = ap (λ (v : View). v.out) only.rest ∙ (ap (λ (v : View). v.out) reads.rest) }
 
 unread_performs : (names : List (List ℕ)) (old mid new : View) (end : End) (work : Work) → Opens names old.files mid.files → OnlyReads old mid → OnlyErr mid new → UnreadCause old new end → Notes None mid new end → Performs names work old new end
 unread_performs names old mid new end work opens reads only cause notes = record {
@@ -57,8 +57,9 @@ unread_performs names old mid new end work opens reads only cause notes = record
   read = tt;
   given = tt;
   does = unread names old mid new end opens reads only cause;
-  tells = ap (λ (x : Files). x.tells) only.files ∙ opens.tells;
-  notes = notes_before None old mid new end reads.err reads.note_faults notes;
+  tells = ap (λ (x : Files). x.tells) (ap (λ (v : View). v.files) only.rest) ∙ opens.tells;
+  disks = ap (λ (v : View). v.spills) only.rest ∙ ap (λ (v : View). v.spills) reads.rest;
+  notes = notes_before None old mid new end (ap (λ (v : View). v.err) reads.rest) (ap (λ (v : View). v.note_faults) reads.rest) notes;
 }
 
 pub fault_performs : (names : List (List ℕ)) (old mid new : View) (now : End) → Opens names old.files mid.files → OnlyReads old mid → Rose old.read_faults mid.read_faults → Told ReadFault now → OnlyErr mid new →
@@ -66,7 +67,7 @@ pub fault_performs : (names : List (List ℕ)) (old mid new : View) (now : End) 
 fault_performs names old mid new now opens reads rose told only notes work =
     let C : End → Type 0 = λ e. UnreadCause old new e in
     let same : now ≡ ReadFault = told_same ReadFault now (λ r. r) told in
-    unread_performs names old mid new now work opens reads only (subst C (sym same) (rw only.read_faults rose)) (notes None)
+    unread_performs names old mid new now work opens reads only (subst C (sym same) (rw (ap (λ (v : View). v.read_faults) only.rest) rose)) (notes None)
 
 pub memory_performs : (names : List (List ℕ)) (old mid new : View) (now : End) → Opens names old.files mid.files → OnlyReads old mid → Told OutOfMemory now → OnlyErr mid new →
     ((r : Reading) → Notes r mid new now) → (work : Work) → Performs names work old new now
@@ -87,10 +88,11 @@ refused_performs : (names : List (List ℕ)) (e : JobError) (old mid new : View)
 refused_performs names e old mid new read now work t refuses cause only notes = record {
   reading = Some (Err e);
   read = is_read names old mid read (Err e) t refuses;
-  given = is_given names old mid new read (Err e) t refuses (more_same mid.gave new.gave only.gave);
-  does = record { cause = cause; untouched = untouched names old mid new t.opens only; opened = ap (λ (x : Files). x.opened) only.files ∙ t.opened; prints = only.out ∙ t.only.out };
-  tells = ap (λ (x : Files). x.tells) only.files ∙ t.opens.tells;
-  notes = notes_before (Some (Err e)) old mid new now t.only.err t.only.note_faults notes;
+  given = is_given names old mid new read (Err e) t refuses (more_same mid.gave new.gave (ap (λ (v : View). v.gave) only.rest));
+  does = record { cause = cause; untouched = untouched names old mid new t.opens only; opened = ap (λ (x : Files). x.opened) (ap (λ (v : View). v.files) only.rest) ∙ t.opened; prints = ap (λ (v : View). v.out) only.rest ∙ (ap (λ (v : View). v.out) t.only.rest) };
+  tells = ap (λ (x : Files). x.tells) (ap (λ (v : View). v.files) only.rest) ∙ t.opens.tells;
+  disks = ap (λ (v : View). v.spills) only.rest ∙ ap (λ (v : View). v.spills) t.only.rest;
+  notes = notes_before (Some (Err e)) old mid new now (ap (λ (v : View). v.err) t.only.rest) (ap (λ (v : View). v.note_faults) t.only.rest) notes;
 }
 
 pub text_performs : (names : List (List ℕ)) (old mid new : View) (read : List ℕ) (end now : End) → TextRead names old mid read → TextEnds read end → Told end now → OnlyErr mid new → ((r : Reading) → Notes r mid new now) → (work : Work) → Performs names work old new now

@@ -62,6 +62,8 @@ pub record Generates (w : GenWords) (old new : View) (end : End) : Type 0 where
   -- no file is opened, created or touched
   pub files : new.files ≡ old.files
   pub gave : new.gave ≡ old.gave
+  -- no disk is asked for
+  pub spills : new.spills ≡ old.spills
   pub read_faults : new.read_faults ≡ old.read_faults
   pub write_faults : new.write_faults ≡ old.write_faults
   pub notes : Notes None old new end

@@ -195,11 +195,7 @@ given_back old mid new store P before is known = record { more = store; is = is 
 pub reads_then : (old mid new : View) → OnlyReads old mid → OnlyReads mid new → OnlyReads old new
 reads_then old mid new a b = record {
   gave = more_then old.gave mid.gave new.gave a.gave b.gave;
-  out = b.out ∙ a.out;
-  err = b.err ∙ a.err;
-  write_faults = b.write_faults ∙ a.write_faults;
-  print_faults = b.print_faults ∙ a.print_faults;
-  note_faults = b.note_faults ∙ a.note_faults;
+  rest = b.rest ∙ ap (λ (v : View). record v { files = new.files; read_faults = new.read_faults; gave = new.gave }) a.rest;
 }
 
 -- a buffer's front, and the front of the file that it was read of

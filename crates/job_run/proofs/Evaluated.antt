@@ -5,7 +5,8 @@ use Rattle.std.proofs.lemmas.List.{get_or-map, length-map}
 use Rattle.io_edge.specs.Cause.{Rose, TakesFaults}
 use Rattle.io_edge.specs.Content.{Content, Told, Untold, OnTold, file_at, told_bytes}
 use Rattle.io_edge.specs.Given.{Piece}
-use Rattle.io_edge.proofs.GivenLaws.{more_around, more_same}
+use Rattle.io_edge.proofs.GivenLaws.{more_around}
+use Rattle.io_edge.proofs.Only.{reads_none}
 use Rattle.io_edge.specs.View.{View, Files, OnlyReads, OnlyWrites, raised_by}
 use Rattle.nd_shape.specs.Block.{Array}
 use Rattle.array_expr.specs.Node.{shape_at}
@@ -91,7 +92,7 @@ pub files_given : (files : List Saving) (mid new : View) → GivesBack files mid
 files_given files mid new gives writes later takes = record {
   same = record { count = refl; names = λ k h. refl; dims = λ k h. refl; told = λ k h t. t };
   files_same = refl;
-  reads = record { gave = more_same mid.gave mid.gave refl; out = refl; err = refl; write_faults = refl; print_faults = refl; note_faults = refl };
+  reads = reads_none mid;
   faults = record { later = omega arith; risen = λ h. absurd (omega (arith, h)) };
   gives = gives;
   writes = writes;
@@ -150,13 +151,14 @@ module _ (p : Plan) (named : Named) (old mid between new : View) (files now : Li
     tells = back.gives.tells ∙ (ap (λ (f : Files). f.tells) back.files_same ∙ made.tells);
     opened = back.gives.opened ∙ (ap (λ (f : Files). f.opened) back.files_same ∙ made.opened);
     created = creates (names_saved p) old.files.created new.files.created end created_is;
-    gave = more_around old.gave mid.gave between.gave new.gave made.only.gave back.reads.gave back.writes.gave;
-    out = back.writes.out ∙ (back.reads.out ∙ made.only.out);
-    err = back.writes.err ∙ (back.reads.err ∙ made.only.err);
-    note_faults = back.writes.note_faults ∙ (back.reads.note_faults ∙ made.only.note_faults);
-    print_faults = back.writes.print_faults ∙ (back.reads.print_faults ∙ made.only.print_faults);
-    read_later = omega (arith, back.writes.read_faults, back.faults.later, made.only.read_faults);
-    write_later = omega (arith, back.later, back.reads.write_faults, made.later);
+    gave = more_around old.gave mid.gave between.gave new.gave (ap (λ (v : View). v.gave) made.only.rest) back.reads.gave (ap (λ (v : View). v.gave) back.writes.rest);
+    out = ap (λ (v : View). v.out) back.writes.rest ∙ (ap (λ (v : View). v.out) back.reads.rest ∙ ap (λ (v : View). v.out) made.only.rest);
+    err = ap (λ (v : View). v.err) back.writes.rest ∙ (ap (λ (v : View). v.err) back.reads.rest ∙ ap (λ (v : View). v.err) made.only.rest);
+    note_faults = ap (λ (v : View). v.note_faults) back.writes.rest ∙ (ap (λ (v : View). v.note_faults) back.reads.rest ∙ ap (λ (v : View). v.note_faults) made.only.rest);
+    spills = ap (λ (v : View). v.spills) back.writes.rest ∙ (ap (λ (v : View). v.spills) back.reads.rest ∙ ap (λ (v : View). v.spills) made.only.rest);
+    print_faults = ap (λ (v : View). v.print_faults) back.writes.rest ∙ (ap (λ (v : View). v.print_faults) back.reads.rest ∙ ap (λ (v : View). v.print_faults) made.only.rest);
+    read_later = omega (arith, ap (λ (v : View). v.read_faults) back.writes.rest, back.faults.later, ap (λ (v : View). v.read_faults) made.only.rest);
+    write_later = omega (arith, back.later, ap (λ (v : View). v.write_faults) back.reads.rest, made.later);
   }
 
 -- ## Its ends
@@ -206,11 +208,11 @@ halted p named old mid between new files now given before count told again (halt
 halted p named old mid between new files now given before count told again halts.ReadFault made back apart same gives right cause given_too =
     let rose : Rose mid.read_faults between.read_faults = back.faults.risen (omega (arith, same, cause)) in
     evaluated p named old mid between new files now given made back told ReadFault apart (λ t. right (gives t))
-    (rose_from old.read_faults mid.read_faults between.read_faults new.read_faults (omega (arith, made.only.read_faults)) (omega (arith, back.writes.read_faults)) rose) tt tt
+    (rose_from old.read_faults mid.read_faults between.read_faults new.read_faults (omega (arith, ap (λ (v : View). v.read_faults) made.only.rest)) (omega (arith, ap (λ (v : View). v.read_faults) back.writes.rest)) rose) tt tt
 halted p named old mid between new files now given before count told again halts.WriteFault made back apart same gives right cause given_too =
     let rose : Rose between.write_faults new.write_faults = back.takes.risen cause.place cause.there cause.failed in
     evaluated p named old mid between new files now given made back told WriteFault apart (λ t. right (gives t))
-    (rose_from old.write_faults between.write_faults new.write_faults new.write_faults (omega (arith, made.later, back.reads.write_faults)) (omega arith) rose) tt tt
+    (rose_from old.write_faults between.write_faults new.write_faults new.write_faults (omega (arith, made.later, ap (λ (v : View). v.write_faults) back.reads.rest)) (omega arith) rose) tt tt
 halted p named old mid between new files now given before count told again halts.OutOfMemory made back apart same gives right cause given_too =
     evaluated p named old mid between new files now given made back told OutOfMemory apart (λ t. right (gives t)) tt tt tt
 
@@ -257,11 +259,12 @@ refused p named old mid new told end shapes r c cause given_too saves created = 
   tells = ap (λ (f : Files). f.tells) c.files_same ∙ r.tells;
   opened = ap (λ (f : Files). f.opened) c.files_same ∙ r.opened;
   created = created (let P : (List ℕ → ℕ) → Type 0 = λ x. RaisedAtMost (names_saved p) old.files.created x in subst P (sym (ap (λ (f : Files). f.created) c.files_same)) r.created);
-  gave = more_around old.gave mid.gave new.gave new.gave r.only.gave c.reads.gave refl;
-  out = c.reads.out ∙ r.only.out;
-  err = c.reads.err ∙ r.only.err;
-  note_faults = c.reads.note_faults ∙ r.only.note_faults;
-  print_faults = c.reads.print_faults ∙ r.only.print_faults;
-  read_later = omega (arith, c.later, r.only.read_faults);
-  write_later = omega (arith, r.later, c.reads.write_faults);
+  gave = more_around old.gave mid.gave new.gave new.gave (ap (λ (v : View). v.gave) r.only.rest) c.reads.gave refl;
+  out = ap (λ (v : View). v.out) c.reads.rest ∙ ap (λ (v : View). v.out) r.only.rest;
+  err = ap (λ (v : View). v.err) c.reads.rest ∙ ap (λ (v : View). v.err) r.only.rest;
+  note_faults = ap (λ (v : View). v.note_faults) c.reads.rest ∙ ap (λ (v : View). v.note_faults) r.only.rest;
+  spills = ap (λ (v : View). v.spills) c.reads.rest ∙ ap (λ (v : View). v.spills) r.only.rest;
+  print_faults = ap (λ (v : View). v.print_faults) c.reads.rest ∙ ap (λ (v : View). v.print_faults) r.only.rest;
+  read_later = omega (arith, c.later, ap (λ (v : View). v.read_faults) r.only.rest);
+  write_later = omega (arith, r.later, ap (λ (v : View). v.write_faults) c.reads.rest);
 }

@@ -4,6 +4,7 @@ use Rattle.std.specs.Prelude.{IfSome, IsTrue, Option, Some, None}
 use Rattle.io_edge.specs.Cause.{Rose}
 use Rattle.io_edge.specs.Content.{Content, followed_by, PrintsPart}
 use Rattle.io_edge.proofs.GivenLaws.{given_before, given_later, more_same, more_then}
+use Rattle.io_edge.proofs.Only.{reads_none}
 use Rattle.io_edge.specs.View.{View, Files, Opens, OnlyReads, OnlyOut, raised_by}
 use Rattle.nd_shape.specs.Block.{Array}
 use Rattle.npy_codec.specs.declared.head.Head.{Head}
@@ -83,10 +84,11 @@ early_runs p old new end is cause opens only opened = record {
   tells = opens.tells;
   opened = opened;
   created = early_created (names_saved p) old.files.created new.files.created end is opens.created;
-  prints = early_prints p old new end is only.out;
+  prints = early_prints p old new end is (ap (λ (v : View). v.out) only.rest);
   gave = only.gave;
-  err = only.err;
-  note_faults = only.note_faults;
+  err = ap (λ (v : View). v.err) only.rest;
+  note_faults = ap (λ (v : View). v.note_faults) only.rest;
+  spills = ap (λ (v : View). v.spills) only.rest;
 }
 
 opens_nothing : (names : List (List ℕ)) (files : Files) → Opens names files files
@@ -100,17 +102,14 @@ opens_nothing names files = record {
   size_others = λ n none. refl;
 }
 
-reads_nothing : (v : View) → OnlyReads v v
-reads_nothing v = record { gave = more_same v.gave v.gave refl; out = refl; err = refl; write_faults = refl; print_faults = refl; note_faults = refl }
-
 -- want of memory before the inputs are opened
 pub memory_runs : (p : Plan) (v : View) → RunsPlan p v v OutOfMemory
-memory_runs p v = early_runs p v v OutOfMemory tt tt (opens_nothing p.inputs v.files) (reads_nothing v) (none_raised p.inputs v.files.opened v.files.opened refl)
+memory_runs p v = early_runs p v v OutOfMemory tt tt (opens_nothing p.inputs v.files) (reads_none v) (none_raised p.inputs v.files.opened v.files.opened refl)
 
 -- there is no graph
 pub lowering_runs : (p : Plan) (v : View) (end : Ended) → LowerCause p end → RunsPlan p v v end
 lowering_runs p v Done cause = absurd cause
-lowering_runs p v (Limit quantity) cause = early_runs p v v (Limit quantity) tt cause (opens_nothing p.inputs v.files) (reads_nothing v) refl
+lowering_runs p v (Limit quantity) cause = early_runs p v v (Limit quantity) tt cause (opens_nothing p.inputs v.files) (reads_none v) refl
 lowering_runs p v (File place error) cause = absurd cause
 lowering_runs p v (Zero node block) cause = absurd cause
 lowering_runs p v (Killed key losses) cause = absurd cause
@@ -180,8 +179,9 @@ module _ (p : Plan) (old mid new : View) (files : List Content) (heads : List He
     created = created;
     prints = prints;
     gave = more_then old.gave mid.gave new.gave a.only.gave e.gave;
-    err = e.err ∙ a.only.err;
-    note_faults = e.note_faults ∙ a.only.note_faults;
+    err = e.err ∙ ap (λ (v : View). v.err) a.only.rest;
+    note_faults = e.note_faults ∙ ap (λ (v : View). v.note_faults) a.only.rest;
+    spills = e.spills ∙ ap (λ (v : View). v.spills) a.only.rest;
   }
 
 -- not all blocks were made and written
@@ -197,19 +197,19 @@ stopped_runs p old mid new files heads (Zero node block) a e not =
       given_before old.gave mid.gave new.gave _ a.only.gave e.given,
     )
     (right_after p old mid new files heads (Zero node block) a e) (opened_after p old mid new files heads (Zero node block) a e)
-    (e.created ∙ ap (raised_by (names_saved p)) a.opens.created) (e.out ∙ a.only.out)
+    (e.created ∙ ap (raised_by (names_saved p)) a.opens.created) (e.out ∙ ap (λ (v : View). v.out) a.only.rest)
 stopped_runs p old mid new files heads ReadFault a e not =
     evaluated_runs p old mid new files heads ReadFault a e (a.small, rose_before old.read_faults mid.read_faults new.read_faults a.later e.cause)
     (right_after p old mid new files heads ReadFault a e) (raised_at_most p.inputs old.files.opened new.files.opened (opened_after p old mid new files heads ReadFault a e))
-    (most_before (names_saved p) old.files.created mid.files.created new.files.created a.opens.created e.created) (e.out ∙ a.only.out)
+    (most_before (names_saved p) old.files.created mid.files.created new.files.created a.opens.created e.created) (e.out ∙ ap (λ (v : View). v.out) a.only.rest)
 stopped_runs p old mid new files heads WriteFault a e not =
-    evaluated_runs p old mid new files heads WriteFault a e (a.small, a.fit, inl (rose_before old.write_faults mid.write_faults new.write_faults (omega (arith, a.only.write_faults)) e.cause))
+    evaluated_runs p old mid new files heads WriteFault a e (a.small, a.fit, inl (rose_before old.write_faults mid.write_faults new.write_faults (omega (arith, ap (λ (v : View). v.write_faults) a.only.rest)) e.cause))
     (right_after p old mid new files heads WriteFault a e) (raised_at_most p.inputs old.files.opened new.files.opened (opened_after p old mid new files heads WriteFault a e))
-    (most_before (names_saved p) old.files.created mid.files.created new.files.created a.opens.created e.created) (inl (e.out ∙ a.only.out))
+    (most_before (names_saved p) old.files.created mid.files.created new.files.created a.opens.created e.created) (inl (e.out ∙ ap (λ (v : View). v.out) a.only.rest))
 stopped_runs p old mid new files heads OutOfMemory a e not =
     evaluated_runs p old mid new files heads OutOfMemory a e tt
     (right_after p old mid new files heads OutOfMemory a e) (raised_at_most p.inputs old.files.opened new.files.opened (opened_after p old mid new files heads OutOfMemory a e))
-    (most_before (names_saved p) old.files.created mid.files.created new.files.created a.opens.created e.created) (e.out ∙ a.only.out)
+    (most_before (names_saved p) old.files.created mid.files.created new.files.created a.opens.created e.created) (e.out ∙ ap (λ (v : View). v.out) a.only.rest)
 
 -- ## Once all is saved
 
@@ -220,40 +220,41 @@ module _ (p : Plan) (old mid saved new : View) (files : List Content) (heads : L
   saved_after : AreSaved p old.files new.files
   saved_after = on_accepted p old mid files heads a (λ n. IsTrue old.files.tells → AreWhole (names_saved p) (files_of p n) new.files) (λ t tells.
       let P : Files → Type 0 = λ f. AreWhole (names_saved p) (files_of p (named_told files heads)) f in
-      subst P (sym prints.files) (e.saves t (subst IsTrue (sym a.opens.tells) tells)))
+      subst P (sym (ap (λ (v : View). v.files) prints.rest)) (e.saves t (subst IsTrue (sym a.opens.tells) tells)))
 
   created_after : new.files.created ≡ raised_by (names_saved p) old.files.created
-  created_after = ap (λ (f : Files). f.created) prints.files ∙ (e.created ∙ ap (raised_by (names_saved p)) a.opens.created)
+  created_after = ap (λ (f : Files). f.created) (ap (λ (v : View). v.files) prints.rest) ∙ (e.created ∙ ap (raised_by (names_saved p)) a.opens.created)
 
   all_opened : new.files.opened ≡ raised_by p.inputs old.files.opened
-  all_opened = ap (λ (f : Files). f.opened) prints.files ∙ (e.opened ∙ a.opened)
+  all_opened = ap (λ (f : Files). f.opened) (ap (λ (v : View). v.files) prints.rest) ∙ (e.opened ∙ a.opened)
 
   out_before : saved.out ≡ old.out
-  out_before = e.out ∙ a.only.out
+  out_before = e.out ∙ (ap (λ (v : View). v.out) a.only.rest)
 
   printed_runs : (end : Ended) → Cause p old new end → Saves p old.files new.files end → Opened p.inputs old.files.opened new.files.opened end → Created (names_saved p) old.files.created new.files.created end → Prints p old new end → RunsPlan p old new end
   printed_runs end cause saves opened created out = record {
     cause = cause;
     saves = saves;
     looked = inr (record { opened = all_opened; inputs = a.fit; small = a.small });
-    others = λ n none. ap (λ (f : Files). f.held n) prints.files ∙ (e.others n none ∙ ap (λ f. f n) a.opens.held);
-    tells = ap (λ (f : Files). f.tells) prints.files ∙ (e.tells ∙ a.opens.tells);
+    others = λ n none. ap (λ (f : Files). f.held n) (ap (λ (v : View). v.files) prints.rest) ∙ (e.others n none ∙ ap (λ f. f n) a.opens.held);
+    tells = ap (λ (f : Files). f.tells) (ap (λ (v : View). v.files) prints.rest) ∙ (e.tells ∙ a.opens.tells);
     opened = opened;
     created = created;
     prints = out;
-    gave = more_then old.gave saved.gave new.gave (more_then old.gave mid.gave saved.gave a.only.gave e.gave) (more_same saved.gave new.gave prints.gave);
-    err = prints.err ∙ (e.err ∙ a.only.err);
-    note_faults = prints.note_faults ∙ (e.note_faults ∙ a.only.note_faults);
+    gave = more_then old.gave saved.gave new.gave (more_then old.gave mid.gave saved.gave a.only.gave e.gave) (more_same saved.gave new.gave (ap (λ (v : View). v.gave) prints.rest));
+    err = ap (λ (v : View). v.err) prints.rest ∙ (e.err ∙ ap (λ (v : View). v.err) a.only.rest);
+    note_faults = ap (λ (v : View). v.note_faults) prints.rest ∙ (e.note_faults ∙ ap (λ (v : View). v.note_faults) a.only.rest);
+    spills = ap (λ (v : View). v.spills) prints.rest ∙ (e.spills ∙ ap (λ (v : View). v.spills) a.only.rest);
   }
 
   pub done_runs : new.out ≡ followed_by saved.out (lines_of p) → RunsPlan p old new Done
   done_runs printed = printed_runs Done
-      (a.small, values_after, given_later old.gave saved.gave new.gave _ (given_before old.gave mid.gave saved.gave _ a.only.gave e.given) (more_same saved.gave new.gave prints.gave)) saved_after all_opened created_after (printed ∙ ap (λ o. followed_by o (lines_of p)) out_before)
+      (a.small, values_after, given_later old.gave saved.gave new.gave _ (given_before old.gave mid.gave saved.gave _ a.only.gave e.given) (more_same saved.gave new.gave (ap (λ (v : View). v.gave) prints.rest))) saved_after all_opened created_after (printed ∙ ap (λ o. followed_by o (lines_of p)) out_before)
 
   pub print_fault_runs : PrintsPart saved.out new.out (lines_of p) → Rose saved.print_faults new.print_faults → RunsPlan p old new WriteFault
   print_fault_runs part rose =
-      let risen : Rose old.print_faults new.print_faults = rose_before old.print_faults saved.print_faults new.print_faults (omega (arith, e.print_faults, a.only.print_faults)) rose in
-      let right : AreRight p old.files new.files = let P : Files → Type 0 = λ f. AreRight p old.files f in subst P (sym prints.files) (right_after p old mid saved files heads Done a e) in
+      let risen : Rose old.print_faults new.print_faults = rose_before old.print_faults saved.print_faults new.print_faults (omega (arith, e.print_faults, ap (λ (v : View). v.print_faults) a.only.rest)) rose in
+      let right : AreRight p old.files new.files = let P : Files → Type 0 = λ f. AreRight p old.files f in subst P (sym (ap (λ (v : View). v.files) prints.rest)) (right_after p old mid saved files heads Done a e) in
       let O : Option (List ℕ) → Type 0 = λ o. PrintsPart o new.out (lines_of p) in
       let stops : StopsPrinting p old new (lines_of p) = record { saved = saved_after; created = created_after; fault = risen; front = subst O out_before part } in
       printed_runs WriteFault (a.small, a.fit, inr (values_after, risen)) right (raised_at_most p.inputs old.files.opened new.files.opened all_opened)

@@ -180,6 +180,7 @@ pub record EvaluatesInputs (p : Plan) (named : Named) (told : Type 0) (old new :
   pub out : new.out ≡ old.out
   pub err : new.err ≡ old.err
   pub note_faults : new.note_faults ≡ old.note_faults
+  pub spills : new.spills ≡ old.spills
   pub print_faults : new.print_faults ≡ old.print_faults
   pub read_later : old.read_faults ≤ new.read_faults
   pub write_later : old.write_faults ≤ new.write_faults

@@ -143,3 +143,4 @@ pub record RunsPlan (p : Plan) (old new : View) (end : Ended) : Type 0 where
   pub gave : GivesMore old.gave new.gave
   pub err : new.err ≡ old.err
   pub note_faults : new.note_faults ≡ old.note_faults
+  pub spills : new.spills ≡ old.spills

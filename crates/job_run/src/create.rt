@@ -15,6 +15,7 @@ use saved_files::SavedFiles;
 use std::alloc::Global;
 
 // Creates the files of all saves, or fails at one of them.
+#[tactic(auto, using(io_edge::proofs::Only::writes_then))]
 fn create_each<S: Site>(
     alloc: Global,
     site: &mut S,
@@ -36,6 +37,7 @@ fn create_each<S: Site>(
 }
 
 /// Creates the files of all saves, in their order, each with its header. Where one fails, those before it are given back.
+#[tactic(auto, using(io_edge::proofs::Only::writes_then))]
 pub fn create_files<S: Site>(
     alloc: Global,
     site: &mut S,

@@ -6,6 +6,7 @@ use Rattle.std.proofs.lemmas.List.{length-map, length_push}
 use Rattle.std.proofs.lemmas.Slice.Eq.{bytes_eq-Decides}
 use Rattle.io_edge.specs.Cause.{Rose, TakesFaults}
 use Rattle.io_edge.specs.Content.{told_bytes}
+use Rattle.io_edge.proofs.Only.{writes_none, writes_then}
 use Rattle.io_edge.specs.View.{Files, OnlyWrites, View, updated}
 use Rattle.saved_files.specs.Saving.{GivesBack, Saving, TakesAll, WereCreated, saving_at}
 use Rattle.saved_files.proofs.Places.{at_item, at_new, at_old, last_place}
@@ -110,14 +111,7 @@ takes_more done s before mid now all earlier takes kept = record {
 -- ## What else stays
 
 pub only_none : (old : View) → OnlyWrites old old
-only_none old = record { gave = refl; out = refl; err = refl; read_faults = refl; print_faults = refl; note_faults = refl }
+only_none old = writes_none old
 
 pub only_more : (old mid new : View) → OnlyWrites old mid → OnlyWrites mid new → OnlyWrites old new
-only_more old mid new first then = record {
-  gave = then.gave ∙ first.gave;
-  out = then.out ∙ first.out;
-  err = then.err ∙ first.err;
-  read_faults = then.read_faults ∙ first.read_faults;
-  print_faults = then.print_faults ∙ first.print_faults;
-  note_faults = then.note_faults ∙ first.note_faults;
-}
+only_more old mid new first then = writes_then old mid new first then

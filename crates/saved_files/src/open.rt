@@ -24,6 +24,7 @@ pub struct OpenFile<F> {
 }
 
 // Creates a file with this header and room for the elements, or gives back what was created of it.
+#[tactic(auto, using(io_edge::proofs::Only::writes_then))]
 fn create_with<S: Site>(
     alloc: Global,
     site: &mut S,

@@ -49,6 +49,7 @@ ran p s old new end r cause saves created prints = record {
   gave = r.gave;
   err = r.err;
   note_faults = r.note_faults;
+  spills = r.spills;
 }
 
 -- there is no graph
@@ -100,18 +101,20 @@ record Follows (p : Plan) (old new : View) : Type 0 where
   gave : GivesMore old.gave new.gave
   err : new.err ≡ old.err
   note_faults : new.note_faults ≡ old.note_faults
+  spills : new.spills ≡ old.spills
 
 follows-out : (p : Plan) (old saved new : View) → OnlyOut saved new → Follows p old saved → Follows p old new
 follows-out p old saved new only f =
     let P : Files → Type 0 = λ x. Looked p p.inputs old.files x in
     record {
-      looked = subst P (sym only.files) f.looked;
-      others = λ n none. ap (λ (x : Files). x.held n) only.files ∙ f.others n none;
-      tells = ap (λ (x : Files). x.tells) only.files ∙ f.tells;
-      opened = ap (λ (x : Files). x.opened) only.files ∙ f.opened;
-      gave = more_then old.gave saved.gave new.gave f.gave (more_same saved.gave new.gave only.gave);
-      err = only.err ∙ f.err;
-      note_faults = only.note_faults ∙ f.note_faults;
+      looked = subst P (sym (ap (λ (v : View). v.files) only.rest)) f.looked;
+      others = λ n none. ap (λ (x : Files). x.held n) (ap (λ (v : View). v.files) only.rest) ∙ f.others n none;
+      tells = ap (λ (x : Files). x.tells) (ap (λ (v : View). v.files) only.rest) ∙ f.tells;
+      opened = ap (λ (x : Files). x.opened) (ap (λ (v : View). v.files) only.rest) ∙ f.opened;
+      gave = more_then old.gave saved.gave new.gave f.gave (more_same saved.gave new.gave (ap (λ (v : View). v.gave) only.rest));
+      err = ap (λ (v : View). v.err) only.rest ∙ f.err;
+      note_faults = ap (λ (v : View). v.note_faults) only.rest ∙ f.note_faults;
+      spills = ap (λ (v : View). v.spills) only.rest ∙ f.spills;
     }
 
 ends : (p : Plan) (s : SimWords) (old new : View) (end : SimEnded) → Follows p old new → Cause p s old new end → Saves p old.files new.files end → Opened p.inputs old.files.opened new.files.opened end →
@@ -128,6 +131,7 @@ ends p s old new end f cause saves opened created prints = record {
   gave = f.gave;
   err = f.err;
   note_faults = f.note_faults;
+  spills = f.spills;
 }
 
 module _ (p : Plan) (s : SimWords) (old mid : View) (files : List Content) (heads : List Head) (a : HaveAccepted p old mid files heads) where
@@ -138,8 +142,9 @@ module _ (p : Plan) (s : SimWords) (old mid : View) (files : List Content) (head
     tells = f.tells ∙ a.opens.tells;
     opened = f.opened ∙ a.opened;
     gave = more_then old.gave mid.gave new.gave a.only.gave f.gave;
-    err = f.err ∙ a.only.err;
-    note_faults = f.note_faults ∙ a.only.note_faults;
+    err = f.err ∙ ap (λ (v : View). v.err) a.only.rest;
+    note_faults = f.note_faults ∙ ap (λ (v : View). v.note_faults) a.only.rest;
+    spills = f.spills ∙ ap (λ (v : View). v.spills) a.only.rest;
   }
 
   -- ### What the inputs hold
@@ -194,7 +199,7 @@ module _ (p : Plan) (s : SimWords) (old mid : View) (files : List Content) (head
       ServesPart p s (named_told files heads) (TellsFeed heads files) (Rose mid.read_faults new.read_faults) (Rose mid.write_faults new.write_faults) mid.files new.files end → SimulatesPlan p s old new end
   stopped-ends new Events f part =
       let bare = part.bare tt in
-      ends p s old new Events (follows new f) (a.small, a.fit, simulates IsOutOfEvents part.cause) (bare.0 ∙ a.opens.held) (f.opened ∙ a.opened) (bare.1 ∙ a.opens.created) (f.out ∙ a.only.out)
+      ends p s old new Events (follows new f) (a.small, a.fit, simulates IsOutOfEvents part.cause) (bare.0 ∙ a.opens.held) (f.opened ∙ a.opened) (bare.1 ∙ a.opens.created) (f.out ∙ ap (λ (v : View). v.out) a.only.rest)
   stopped-ends new (Ran Done) f part = absurd part.cause
   stopped-ends new (Ran (Limit quantity)) f part = absurd part.cause
   stopped-ends new (Ran (File place error)) f part = absurd part.cause
@@ -202,22 +207,22 @@ module _ (p : Plan) (s : SimWords) (old mid : View) (files : List Content) (head
       let bare = part.bare tt in
       ends p s old new (Ran (Zero node block)) (follows new f)
       (a.small, record { inputs = a.fit; zero_at = on_named p old.files mid.files files heads (λ n. IsFaulty p n node block) a.inputs part.cause })
-      (bare.0 ∙ a.opens.held) (f.opened ∙ a.opened) (bare.1 ∙ a.opens.created) (f.out ∙ a.only.out)
+      (bare.0 ∙ a.opens.held) (f.opened ∙ a.opened) (bare.1 ∙ a.opens.created) (f.out ∙ ap (λ (v : View). v.out) a.only.rest)
   stopped-ends new (Ran (Killed key losses)) f part =
       let bare = part.bare tt in
       ends p s old new (Ran (Killed key losses)) (follows new f)
       (a.small, a.fit, part.cause.0, simulates (λ job wanted s. IsKilled job wanted s key) part.cause.1)
-      (bare.0 ∙ a.opens.held) (f.opened ∙ a.opened) (bare.1 ∙ a.opens.created) (f.out ∙ a.only.out)
+      (bare.0 ∙ a.opens.held) (f.opened ∙ a.opened) (bare.1 ∙ a.opens.created) (f.out ∙ ap (λ (v : View). v.out) a.only.rest)
   stopped-ends new (Ran ReadFault) f part =
       ends p s old new (Ran ReadFault) (follows new f) (a.small, rose_before old.read_faults mid.read_faults new.read_faults a.later part.cause)
-      (are-right new.files part.left) (opened-most new (follows new f)) (created-most new f) (f.out ∙ a.only.out)
+      (are-right new.files part.left) (opened-most new (follows new f)) (created-most new f) (f.out ∙ ap (λ (v : View). v.out) a.only.rest)
   stopped-ends new (Ran WriteFault) f part =
       let got = part.cause.0 in
       ends p s old new (Ran WriteFault) (follows new f)
-      (a.small, has-values got.values, inl (rose_before old.write_faults mid.write_faults new.write_faults (omega (arith, a.only.write_faults)) part.cause.1))
+      (a.small, has-values got.values, inl (rose_before old.write_faults mid.write_faults new.write_faults (omega (arith, ap (λ (v : View). v.write_faults) a.only.rest)) part.cause.1))
       (are-right new.files part.left) (opened-most new (follows new f)) (created-most new f)
-      (prints-served got.report got.turns (PrintsFront p old new) got.served (inl (f.out ∙ a.only.out)))
-  stopped-ends new (Ran OutOfMemory) f part = ends p s old new (Ran OutOfMemory) (follows new f) tt (are-right new.files part.left) (opened-most new (follows new f)) (created-most new f) (f.out ∙ a.only.out)
+      (prints-served got.report got.turns (PrintsFront p old new) got.served (inl (f.out ∙ ap (λ (v : View). v.out) a.only.rest)))
+  stopped-ends new (Ran OutOfMemory) f part = ends p s old new (Ran OutOfMemory) (follows new f) tt (are-right new.files part.left) (opened-most new (follows new f)) (created-most new f) (f.out ∙ ap (λ (v : View). v.out) a.only.rest)
 
   -- ### All blocks were saved
 
@@ -237,17 +242,18 @@ module _ (p : Plan) (s : SimWords) (old mid : View) (files : List Content) (head
         opened = g.opened;
         created = all.created ∙ ap (raised_by (names_saved p)) a.opens.created;
         gave = g.gave;
-        out = f.out ∙ a.only.out;
+        out = f.out ∙ ap (λ (v : View). v.out) a.only.rest;
         err = g.err;
         note_faults = g.note_faults;
-        print_faults = f.print_faults ∙ a.only.print_faults;
+        spills = g.spills;
+        print_faults = f.print_faults ∙ ap (λ (v : View). v.print_faults) a.only.rest;
       }
 
 -- ## Once all blocks were saved
 
 module _ (p : Plan) (s : SimWords) (old saved : View) (report : Report) (turns : ℕ) (v : SavesPlan p s old saved report turns) where
   saved-follows : Follows p old saved
-  saved-follows = record { looked = v.looked; others = v.others; tells = v.tells; opened = v.opened; gave = v.gave; err = v.err; note_faults = v.note_faults }
+  saved-follows = record { looked = v.looked; others = v.others; tells = v.tells; opened = v.opened; gave = v.gave; err = v.err; note_faults = v.note_faults; spills = v.spills }
 
   saved-created : RaisedAtMost (names_saved p) old.files.created saved.files.created
   saved-created = raised_at_most (names_saved p) old.files.created saved.files.created v.created
@@ -263,7 +269,7 @@ module _ (p : Plan) (s : SimWords) (old saved : View) (report : Report) (turns :
   done-ends new text only is printed =
       let S : Files → Type 0 = λ x. AreSaved p old.files x in
       let g = follows-out p old saved new only saved-follows in
-      ends p s old new (Ran Done) g (v.small, v.values) (subst S (sym only.files) v.saved) g.opened (ap (λ (x : Files). x.created) only.files ∙ v.created)
+      ends p s old new (Ran Done) g (v.small, v.values) (subst S (sym (ap (λ (v : View). v.files) only.rest)) v.saved) g.opened (ap (λ (x : Files). x.created) (ap (λ (v : View). v.files) only.rest) ∙ v.created)
       (served-prints (λ lines. new.out ≡ followed_by old.out lines) (printed ∙ (ap (λ out. followed_by out text) v.out ∙ ap (followed_by old.out) is)))
 
   pub unprinted-ends : (new : View) (text : List ℕ) → OnlyOut saved new → text ≡ lines_of p report turns → PrintsPart saved.out new.out text → Rose saved.print_faults new.print_faults → SimulatesPlan p s old new (Ran WriteFault)
@@ -276,10 +282,10 @@ module _ (p : Plan) (s : SimWords) (old saved : View) (report : Report) (turns :
       let g = follows-out p old saved new only saved-follows in
       let fault : Rose old.print_faults new.print_faults = rose_before old.print_faults saved.print_faults new.print_faults (omega (arith, v.print_faults)) rose in
       let stops : StopsPrinting p old new (lines_of p report turns) = record {
-        saved = subst S (sym only.files) v.saved;
-        created = ap (λ (x : Files). x.created) only.files ∙ v.created;
+        saved = subst S (sym (ap (λ (v : View). v.files) only.rest)) v.saved;
+        created = ap (λ (x : Files). x.created) (ap (λ (v : View). v.files) only.rest) ∙ v.created;
         fault = fault;
         front = subst L is (subst O v.out printed);
       } in
-      ends p s old new (Ran WriteFault) g (v.small, v.values, inr fault) (subst R (sym only.files) v.right) (raised_at_most p.inputs old.files.opened new.files.opened g.opened) (subst C (sym only.files) saved-created)
+      ends p s old new (Ran WriteFault) g (v.small, v.values, inr fault) (subst R (sym (ap (λ (v : View). v.files) only.rest)) v.right) (raised_at_most p.inputs old.files.opened new.files.opened g.opened) (subst C (sym (ap (λ (v : View). v.files) only.rest)) saved-created)
       (served-prints (PrintsFront p old new) (inr (v.values, stops)))

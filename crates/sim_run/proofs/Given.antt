@@ -1,5 +1,5 @@
 -- What a simulation left, once the store of its inputs was given back.
-use Rattle.std.proofs.Common.{◌≡◌, ℕ, ◌<◌, refl, sym, ◌∙◌, subst, arith}
+use Rattle.std.proofs.Common.{◌≡◌, ℕ, ◌<◌, ap, refl, sym, ◌∙◌, subst, arith}
 use Rattle.io_edge.specs.Cause.{Rose, TakesFaults}
 use Rattle.io_edge.proofs.GivenLaws.{more_around}
 use Rattle.io_edge.specs.View.{Files, OnlyReads, View}
@@ -49,10 +49,10 @@ module _ (p : Plan) (s : SimWords) (named : Named) (told again : Type 0) (start 
   read-rose rose =
       let some : 0 < given = omega (arith, rose, r.fresh) in
       let here : Rose mid.read_faults new.read_faults = r.takes.risen some in
-      omega (arith, here, r.saves.only.read_faults)
+      omega (arith, here, ap (λ (v : View). v.read_faults) r.saves.only.rest)
 
   write-rose : Rose old.write_faults mid.write_faults → Rose old.write_faults new.write_faults
-  write-rose rose = omega (arith, rose, r.reads.write_faults)
+  write-rose rose = omega (arith, rose, ap (λ (v : View). v.write_faults) r.reads.rest)
 
   pub part-given : (end : SimEnded) → ServesPart p s named again (Rose start given) (Rose old.write_faults mid.write_faults) old.files mid.files end →
       ServesPart p s named told (Rose old.read_faults new.read_faults) (Rose old.write_faults new.write_faults) old.files new.files end
@@ -74,11 +74,12 @@ files-given p start given old mid new r =
       tells = r.saves.tells;
       opened = r.saves.opened;
       created = r.saves.created;
-      gave = more_around old.gave mid.gave new.gave new.gave r.saves.only.gave r.reads.gave refl;
-      out = r.reads.out ∙ r.saves.only.out;
-      err = r.reads.err ∙ r.saves.only.err;
-      note_faults = r.reads.note_faults ∙ r.saves.only.note_faults;
-      print_faults = r.reads.print_faults ∙ r.saves.only.print_faults;
-      read_later = omega (arith, r.takes.later, r.saves.only.read_faults);
-      write_later = omega (arith, r.saves.write_later, r.reads.write_faults);
+      gave = more_around old.gave mid.gave new.gave new.gave (ap (λ (v : View). v.gave) r.saves.only.rest) r.reads.gave refl;
+      out = ap (λ (v : View). v.out) r.reads.rest ∙ ap (λ (v : View). v.out) r.saves.only.rest;
+      err = ap (λ (v : View). v.err) r.reads.rest ∙ ap (λ (v : View). v.err) r.saves.only.rest;
+      note_faults = ap (λ (v : View). v.note_faults) r.reads.rest ∙ ap (λ (v : View). v.note_faults) r.saves.only.rest;
+      spills = ap (λ (v : View). v.spills) r.reads.rest ∙ ap (λ (v : View). v.spills) r.saves.only.rest;
+      print_faults = ap (λ (v : View). v.print_faults) r.reads.rest ∙ ap (λ (v : View). v.print_faults) r.saves.only.rest;
+      read_later = omega (arith, r.takes.later, ap (λ (v : View). v.read_faults) r.saves.only.rest);
+      write_later = omega (arith, r.saves.write_later, ap (λ (v : View). v.write_faults) r.reads.rest);
     })

@@ -83,6 +83,7 @@ pub record SavesPlan (p : Plan) (s : SimWords) (old new : View) (report : Report
   pub out : new.out ≡ old.out
   pub err : new.err ≡ old.err
   pub note_faults : new.note_faults ≡ old.note_faults
+  pub spills : new.spills ≡ old.spills
   pub print_faults : new.print_faults ≡ old.print_faults
 
 -- the lines of a simulation of the text's job in which the client got all
@@ -115,3 +116,4 @@ pub record SimulatesPlan (p : Plan) (s : SimWords) (old new : View) (end : SimEn
   pub gave : GivesMore old.gave new.gave
   pub err : new.err ≡ old.err
   pub note_faults : new.note_faults ≡ old.note_faults
+  pub spills : new.spills ≡ old.spills

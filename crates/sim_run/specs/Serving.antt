@@ -103,6 +103,7 @@ pub record ServesFiles (p : Plan) (old new : View) : Type 0 where
   pub out : new.out ≡ old.out
   pub err : new.err ≡ old.err
   pub note_faults : new.note_faults ≡ old.note_faults
+  pub spills : new.spills ≡ old.spills
   pub print_faults : new.print_faults ≡ old.print_faults
   pub read_later : old.read_faults ≤ new.read_faults
   pub write_later : old.write_faults ≤ new.write_faults

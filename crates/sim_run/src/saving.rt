@@ -83,6 +83,7 @@ fn save_arrays<S: Site, E: Elements + Send + Sync + Drop>(
 ///
 /// # Errors
 /// `Failed` only where the site's count of write faults rose, and `OutOfMemory` where no memory is left.
+#[tactic(auto, using(io_edge::proofs::Only::writes_then))]
 pub fn save_all<S: Site, E: Elements + Send + Sync + Drop>(
     alloc: Global,
     site: &mut S,

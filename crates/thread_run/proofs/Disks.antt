@@ -1,5 +1,5 @@
 -- The disks of a run's workers.
-use Rattle.std.proofs.Common.{◌≡◌, ℕ, refl, sym, ◌∙◌, subst, Bool, Option, Some, None}
+use Rattle.std.proofs.Common.{◌≡◌, ℕ, ap, sym, subst, Bool, Option, Some, None}
 use Rattle.std.specs.Prelude.{IfSome, IsTrue}
 use Rattle.std.proofs.lemmas.Bool.{false≢true}
 use Rattle.small_facts.proofs.Options.{if_some_weaker}
@@ -11,23 +11,6 @@ use Rattle.block_lowering.specs.Jobs.{Job}
 use Rattle.worker_store.specs.Keeping.{IsDiskFor}
 use Rattle.job_run.specs.Values.{Named}
 use Rattle.thread_run.proofs.Saved.{facts_of}
-
--- ## Calls for disks, one after another
-
-pub spills_none : (v : View) → OnlySpills v v
-spills_none v = record { gave = refl; files = refl; out = refl; err = refl; read_faults = refl; write_faults = refl; print_faults = refl; note_faults = refl }
-
-pub spills_then : (old mid new : View) → OnlySpills old mid → OnlySpills mid new → OnlySpills old new
-spills_then old mid new a b = record {
-  gave = b.gave ∙ a.gave;
-  files = b.files ∙ a.files;
-  out = b.out ∙ a.out;
-  err = b.err ∙ a.err;
-  read_faults = b.read_faults ∙ a.read_faults;
-  write_faults = b.write_faults ∙ a.write_faults;
-  print_faults = b.print_faults ∙ a.print_faults;
-  note_faults = b.note_faults ∙ a.note_faults;
-}
 
 -- ## New disks
 
@@ -42,4 +25,4 @@ made-for facts v view disk for made = if_some_weaker (λ d. view d ≡ v) (λ d.
 
 -- after other calls for disks the site makes the same
 pub still-for : (facts : LabelFacts Array) (old new : View) → OnlySpills old new → IsDiskFor facts (fresh_disk old.files.tells) → IsDiskFor facts (fresh_disk new.files.tells)
-still-for facts old new s for = subst (λ (f : Files). IsDiskFor facts (fresh_disk f.tells)) (sym s.files) for
+still-for facts old new s for = subst (λ (f : Files). IsDiskFor facts (fresh_disk f.tells)) (sym (ap (λ (v : View). v.files) s.rest)) for

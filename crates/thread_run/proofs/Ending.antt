@@ -25,7 +25,8 @@ use Rattle.task_graph.specs.Graphs.{shape_of}
 use Rattle.job_run.proofs.Counting.{raised_at_most, times-append}
 use Rattle.job_run.proofs.Naming.{on_named}
 use Rattle.job_run.proofs.Running.{HaveAccepted, left_before, lowering_runs, most_before, reading_runs, rose_before}
-use Rattle.thread_run.specs.Counts.{RaisedBetween, feeds, repeated}
+use Rattle.thread_run.specs.Counts.{RaisedBetween, feeds, numbers, repeated}
+use Rattle.thread_run.specs.Disks.{AsksUpTo}
 use Rattle.thread_run.specs.Ends.{Cause, HasValues, Looked, Opened, Prints, PrintsRun, IsOutgrownRun, LeavesAs, RunsByThreads, Saves, lines_of, openings}
 use Rattle.thread_run.specs.Feeding.{is_told}
 use Rattle.thread_run.specs.Losses.{losses_by}
@@ -34,6 +35,7 @@ use Rattle.thread_run.specs.declared.ends.ThreadEnded.{ThreadEnded}
 use Rattle.thread_run.specs.declared.ends.ThreadEnded.TheVariants.{Events, Ran}
 use Rattle.thread_run.specs.declared.verdict.Told.{Told}
 use Rattle.thread_run.specs.Serving.{ServesAll, ServesFiles, ServesPart}
+use Rattle.thread_run.proofs.Asking.{asks_after, asks_same, asks_still}
 use Rattle.thread_run.proofs.Serves.{kill-as}
 
 -- ## Counts
@@ -78,6 +80,7 @@ ran p w old new end r held made cause saves opened created prints = record {
   gave = r.gave;
   err = r.err;
   note_faults = r.note_faults;
+  asks = asks_same (numbers w) old new r.spills;
 }
 
 -- there is no graph
@@ -129,19 +132,21 @@ record Follows (p : Plan) (w : RunWords) (old new : View) : Type 0 where
   gave : GivesMore old.gave new.gave
   err : new.err ≡ old.err
   note_faults : new.note_faults ≡ old.note_faults
+  asks : AsksUpTo (numbers w) old.spills.asked new.spills.asked
 
 follows-out : (p : Plan) (w : RunWords) (old saved new : View) → OnlyOut saved new → Follows p w old saved → Follows p w old new
 follows-out p w old saved new only f =
     let L : Files → Type 0 = λ x. Looked p p.inputs (openings p w) old.files x in
     let O : Files → Type 0 = λ x. RaisedBetween p.inputs (openings p w) old.files.opened x.opened in
     record {
-      looked = subst L (sym only.files) f.looked;
-      others = λ n none. ap (λ (x : Files). x.held n) only.files ∙ f.others n none;
-      tells = ap (λ (x : Files). x.tells) only.files ∙ f.tells;
-      opened = subst O (sym only.files) f.opened;
-      gave = more_then old.gave saved.gave new.gave f.gave (more_same saved.gave new.gave only.gave);
-      err = only.err ∙ f.err;
-      note_faults = only.note_faults ∙ f.note_faults;
+      looked = subst L (sym (ap (λ (v : View). v.files) only.rest)) f.looked;
+      others = λ n none. ap (λ (x : Files). x.held n) (ap (λ (v : View). v.files) only.rest) ∙ f.others n none;
+      tells = ap (λ (x : Files). x.tells) (ap (λ (v : View). v.files) only.rest) ∙ f.tells;
+      opened = subst O (sym (ap (λ (v : View). v.files) only.rest)) f.opened;
+      gave = more_then old.gave saved.gave new.gave f.gave (more_same saved.gave new.gave (ap (λ (v : View). v.gave) only.rest));
+      err = ap (λ (v : View). v.err) only.rest ∙ f.err;
+      note_faults = ap (λ (v : View). v.note_faults) only.rest ∙ f.note_faults;
+      asks = asks_still (numbers w) old.spills.asked saved.spills.asked new.spills.asked f.asks (ap (λ (v : View). v.spills.asked) only.rest);
     }
 
 ends : (p : Plan) (w : RunWords) (old new : View) (end : Ended) → Follows p w old new → Cause p w old new end → Saves p old.files new.files end → Opened p.inputs (openings p w) old.files.opened new.files.opened end →
@@ -158,6 +163,7 @@ ends p w old new end f cause saves opened created prints = record {
   gave = f.gave;
   err = f.err;
   note_faults = f.note_faults;
+  asks = f.asks;
 }
 
 module _ (p : Plan) (w : RunWords) (old mid : View) (files : List Content) (heads : List Head) (a : HaveAccepted p old mid files heads) (told : Bool) (is : told ≡ is_told old.files p.inputs) where
@@ -171,7 +177,7 @@ module _ (p : Plan) (w : RunWords) (old mid : View) (files : List Content) (head
   on-telling P true holds = if_some_weaker _ _ (told_all old.files.held p.inputs) (λ contents h blocks hold t. h blocks hold) (holds refl)
   on-telling P false holds = all-some (told_all old.files.held p.inputs) _ (λ contents blocks hold t. absurd (false≢true t))
 
-  follows : (new : View) → ServesFiles p (feeds w) mid new → Follows p w old new
+  follows : (new : View) → ServesFiles p (feeds w) (numbers w) mid new → Follows p w old new
   follows new f =
       let opened : RaisedBetween p.inputs (openings p w) old.files.opened new.files.opened = between p.inputs (repeated (feeds w) p.inputs) old.files.opened mid.files.opened new.files.opened a.opened f.opened in
       record {
@@ -180,8 +186,9 @@ module _ (p : Plan) (w : RunWords) (old mid : View) (files : List Content) (head
         tells = f.tells ∙ a.opens.tells;
         opened = opened;
         gave = more_then old.gave mid.gave new.gave a.only.gave f.gave;
-        err = f.err ∙ a.only.err;
-        note_faults = f.note_faults ∙ a.only.note_faults;
+        err = f.err ∙ ap (λ (v : View). v.err) a.only.rest;
+        note_faults = f.note_faults ∙ ap (λ (v : View). v.note_faults) a.only.rest;
+        asks = asks_after (numbers w) old.spills.asked mid.spills.asked new.spills.asked (ap (λ (v : View). v.spills.asked) a.only.rest) f.asks;
       }
 
   has-values : (IsTrue told → MeetsNone p (named_told files heads)) → HasValues p old.files
@@ -197,7 +204,7 @@ module _ (p : Plan) (w : RunWords) (old mid : View) (files : List Content) (head
   are-saved new whole = on-telling (λ n. AreWhole (names_saved p) (files_of p n) new) old.files.tells
       (λ tells. on-inputs (λ n. AreWhole (names_saved p) (files_of p n) new) told is (λ t. whole t (subst IsTrue (sym a.opens.tells) tells)) tells)
 
-  created-most : (new : View) → ServesFiles p (feeds w) mid new → RaisedAtMost (names_saved p) old.files.created new.files.created
+  created-most : (new : View) → ServesFiles p (feeds w) (numbers w) mid new → RaisedAtMost (names_saved p) old.files.created new.files.created
   created-most new f = most_before (names_saved p) old.files.created mid.files.created new.files.created a.opens.created f.created
 
   -- ### A core had taken all events
@@ -215,7 +222,7 @@ module _ (p : Plan) (w : RunWords) (old mid : View) (files : List Content) (head
 
   -- ### Not all is saved
 
-  pub stopped-ends : (new : View) (end : Ended) → ServesFiles p (feeds w) mid new → IsFitGiven p mid new →
+  pub stopped-ends : (new : View) (end : Ended) → ServesFiles p (feeds w) (numbers w) mid new → IsFitGiven p mid new →
       ServesPart p (losses_by w) (named_told files heads) (IsTrue told) (Rose mid.read_faults new.read_faults) (Rose mid.write_faults new.write_faults) mid.files new.files end → LeavesAs p w old new end
   stopped-ends new Done f given part = absurd part.cause
   stopped-ends new (Limit quantity) f given part = absurd part.cause
@@ -227,7 +234,7 @@ module _ (p : Plan) (w : RunWords) (old mid : View) (files : List Content) (head
         record { inputs = a.fit; needed = part.cause.0; zero_at = on-inputs (λ n. IsFaulty p n node block) told is part.cause.1 },
         given_before old.gave mid.gave new.gave _ a.only.gave given,
       ) (are-right new.files part.left) g.opened
-      (part.created ∙ ap (raised_by (names_saved p)) a.opens.created) (f.out ∙ a.only.out)
+      (part.created ∙ ap (raised_by (names_saved p)) a.opens.created) (f.out ∙ ap (λ (v : View). v.out) a.only.rest)
   stopped-ends new (Killed key losses) f given part =
       let g = follows new f in
       ends p w old new (Killed key losses) g (
@@ -239,22 +246,22 @@ module _ (p : Plan) (w : RunWords) (old mid : View) (files : List Content) (head
         },
         given_before old.gave mid.gave new.gave _ a.only.gave given,
       ) (are-right new.files part.left) g.opened
-      (part.created ∙ ap (raised_by (names_saved p)) a.opens.created) (f.out ∙ a.only.out)
+      (part.created ∙ ap (raised_by (names_saved p)) a.opens.created) (f.out ∙ ap (λ (v : View). v.out) a.only.rest)
   stopped-ends new ReadFault f given part =
       let g = follows new f in
-      ends p w old new ReadFault g (a.small, rose_before old.read_faults mid.read_faults new.read_faults a.later part.cause) (are-right new.files part.left) g.opened.at_most (created-most new f) (f.out ∙ a.only.out)
+      ends p w old new ReadFault g (a.small, rose_before old.read_faults mid.read_faults new.read_faults a.later part.cause) (are-right new.files part.left) g.opened.at_most (created-most new f) (f.out ∙ ap (λ (v : View). v.out) a.only.rest)
   stopped-ends new WriteFault f given part =
       let g = follows new f in
-      ends p w old new WriteFault g (a.small, a.fit, inl (rose_before old.write_faults mid.write_faults new.write_faults (omega (arith, a.only.write_faults)) part.cause)) (are-right new.files part.left) g.opened (created-most new f)
-      (inl (f.out ∙ a.only.out))
-  stopped-ends new OutOfMemory f given part = let g = follows new f in ends p w old new OutOfMemory g tt (are-right new.files part.left) g.opened.at_most (created-most new f) (f.out ∙ a.only.out)
+      ends p w old new WriteFault g (a.small, a.fit, inl (rose_before old.write_faults mid.write_faults new.write_faults (omega (arith, ap (λ (v : View). v.write_faults) a.only.rest)) part.cause)) (are-right new.files part.left) g.opened (created-most new f)
+      (inl (f.out ∙ ap (λ (v : View). v.out) a.only.rest))
+  stopped-ends new OutOfMemory f given part = let g = follows new f in ends p w old new OutOfMemory g tt (are-right new.files part.left) g.opened.at_most (created-most new f) (f.out ∙ ap (λ (v : View). v.out) a.only.rest)
 
   -- ### All is saved
 
-  module _ (saved : View) (f : ServesFiles p (feeds w) mid saved) (all : ServesAll p (named_told files heads) (IsTrue told) mid.files saved.files) where
+  module _ (saved : View) (f : ServesFiles p (feeds w) (numbers w) mid saved) (all : ServesAll p (named_told files heads) (IsTrue told) mid.files saved.files) where
     -- no memory was left for the lines
     pub starved-ends : LeavesAs p w old saved OutOfMemory
-    starved-ends = let g = follows saved f in ends p w old saved OutOfMemory g tt (are-right saved.files all.left) g.opened.at_most (created-most saved f) (f.out ∙ a.only.out)
+    starved-ends = let g = follows saved f in ends p w old saved OutOfMemory g tt (are-right saved.files all.left) g.opened.at_most (created-most saved f) (f.out ∙ ap (λ (v : View). v.out) a.only.rest)
 
     created-all : saved.files.created ≡ raised_by (names_saved p) old.files.created
     created-all = all.created ∙ ap (raised_by (names_saved p)) a.opens.created
@@ -271,9 +278,9 @@ module _ (p : Plan) (w : RunWords) (old mid : View) (files : List Content) (head
       done-ends new text given only lines printed =
           let S : Files → Type 0 = λ x. AreSaved p old.files x in
           let g = follows-out p w old saved new only (follows saved f) in
-          ends p w old new Done g (a.small, has-values all.values, given_later old.gave saved.gave new.gave _ (given_before old.gave mid.gave saved.gave _ a.only.gave given) (more_same saved.gave new.gave only.gave))
-          (subst S (sym only.files) (are-saved saved.files all.whole)) g.opened (ap (λ (x : Files). x.created) only.files ∙ created-all)
-          (prints-run (λ shown. new.out ≡ followed_by old.out shown) (printed ∙ (ap (λ out. followed_by out text) (f.out ∙ a.only.out) ∙ ap (followed_by old.out) lines)))
+          ends p w old new Done g (a.small, has-values all.values, given_later old.gave saved.gave new.gave _ (given_before old.gave mid.gave saved.gave _ a.only.gave given) (more_same saved.gave new.gave (ap (λ (v : View). v.gave) only.rest)))
+          (subst S (sym (ap (λ (v : View). v.files) only.rest)) (are-saved saved.files all.whole)) g.opened (ap (λ (x : Files). x.created) (ap (λ (v : View). v.files) only.rest) ∙ created-all)
+          (prints-run (λ shown. new.out ≡ followed_by old.out shown) (printed ∙ (ap (λ out. followed_by out text) (f.out ∙ ap (λ (v : View). v.out) a.only.rest) ∙ ap (followed_by old.out) lines)))
 
       pub unprinted-ends : (new : View) (text : List ℕ) → OnlyOut saved new → text ≡ lines_of p told-then → PrintsPart saved.out new.out text → Rose saved.print_faults new.print_faults → LeavesAs p w old new WriteFault
       unprinted-ends new text only lines printed rose =
@@ -282,12 +289,12 @@ module _ (p : Plan) (w : RunWords) (old mid : View) (files : List Content) (head
           let R : Files → Type 0 = λ x. IsTrue old.files.tells → AreRight p old.files x in
           let O : Option (List ℕ) → Type 0 = λ o. PrintsPart o new.out (lines_of p told-then) in
           let T : List ℕ → Type 0 = λ t. PrintsPart saved.out new.out t in
-          let risen : Rose old.print_faults new.print_faults = rose_before old.print_faults saved.print_faults new.print_faults (omega (arith, f.print_faults, a.only.print_faults)) rose in
-          let created : new.files.created ≡ raised_by (names_saved p) old.files.created = ap (λ (x : Files). x.created) only.files ∙ created-all in
+          let risen : Rose old.print_faults new.print_faults = rose_before old.print_faults saved.print_faults new.print_faults (omega (arith, f.print_faults, ap (λ (v : View). v.print_faults) a.only.rest)) rose in
+          let created : new.files.created ≡ raised_by (names_saved p) old.files.created = ap (λ (x : Files). x.created) (ap (λ (v : View). v.files) only.rest) ∙ created-all in
           let stops : StopsPrinting p old new (lines_of p told-then) = record {
-            saved = subst S (sym only.files) (are-saved saved.files all.whole);
+            saved = subst S (sym (ap (λ (v : View). v.files) only.rest)) (are-saved saved.files all.whole);
             created = created;
             fault = risen;
-            front = subst O (f.out ∙ a.only.out) (subst T lines printed);
+            front = subst O (f.out ∙ ap (λ (v : View). v.out) a.only.rest) (subst T lines printed);
           } in
-          ends p w old new WriteFault g (a.small, a.fit, inr (has-values all.values, risen)) (subst R (sym only.files) (are-right saved.files all.left)) g.opened (raised_at_most (names_saved p) old.files.created new.files.created created) (inr (has-values all.values, prints-run (StopsPrinting p old new) stops))
+          ends p w old new WriteFault g (a.small, a.fit, inr (has-values all.values, risen)) (subst R (sym (ap (λ (v : View). v.files) only.rest)) (are-right saved.files all.left)) g.opened (raised_at_most (names_saved p) old.files.created new.files.created created) (inr (has-values all.values, prints-run (StopsPrinting p old new) stops))

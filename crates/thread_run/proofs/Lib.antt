@@ -1,4 +1,5 @@
 pub mod Agreed
+pub mod Asking
 pub mod Ending
 pub mod Fixed
 pub mod Openings

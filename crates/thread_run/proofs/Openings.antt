@@ -5,8 +5,9 @@ use Rattle.std.proofs.lemmas.List.Elements.{Contains-push_cases}
 use Rattle.std.proofs.lemmas.Nat.{mul-le}
 use Rattle.std.specs.Prelude.{Contains, map}
 use Rattle.io_edge.specs.Cause.{Rose, TakesFaults}
-use Rattle.io_edge.specs.View.{View, Files, OnlyReads, OnlySpills, Opens, times}
-use Rattle.io_edge.proofs.GivenLaws.{more_same, reads_then}
+use Rattle.io_edge.specs.View.{View, Files, OnlyReads, Opens, times}
+use Rattle.io_edge.proofs.GivenLaws.{reads_then}
+use Rattle.io_edge.proofs.Only.{reads_none}
 use Rattle.job_run.proofs.Counting.{times-append}
 use Rattle.thread_run.specs.Counts.{repeated}
 use Rattle.thread_run.specs.Feeding.{OpensOften, TakesBack}
@@ -35,9 +36,6 @@ times-most n names j k h =
 
 -- ## Openings
 
-reads-nothing : (v : View) → OnlyReads v v
-reads-nothing v = record { gave = more_same v.gave v.gave refl; out = refl; err = refl; write_faults = refl; print_faults = refl; note_faults = refl }
-
 pub opens-none : (names : List (List ℕ)) (v : View) → OpensOften names 0 v v
 opens-none names v = record {
   tells = refl;
@@ -45,7 +43,7 @@ opens-none names v = record {
   created = refl;
   opened = record { grows = λ n. omega arith; at_most = λ n. omega arith };
   size_kept = λ n s e. e;
-  only = reads-nothing v;
+  only = reads_none v;
   later = omega arith;
 }
 
@@ -134,12 +132,12 @@ opens-back names k old mid new Failed a b =
       created = a.created;
       opened = a.opened;
       size_kept = a.size_kept;
-      only = record { gave = r.gave; out = r.out; err = r.err; write_faults = r.write_faults; print_faults = r.print_faults; note_faults = r.note_faults };
+      only = record { gave = r.gave; rest = ap (λ (v : View). record v { files = mid.files }) r.rest };
       later = omega (arith, a.later, b.later);
     })
 
 pub back-none : (Failed : Type 0) (v : View) → (Failed → ⊥) → TakesBack Failed v v
-back-none Failed v never = record { files = refl; only = reads-nothing v; later = omega arith; risen = λ f. absurd (never f) }
+back-none Failed v never = record { files = refl; only = reads_none v; later = omega arith; risen = λ f. absurd (never f) }
 
 pub back-as : (Failed Fewer : Type 0) (old new : View) → (Fewer → Failed) → TakesBack Failed old new → TakesBack Fewer old new
 back-as Failed Fewer old new f b = record { files = b.files; only = b.only; later = b.later; risen = λ x. b.risen (f x) }
@@ -158,26 +156,3 @@ back-more xs x count given old mid new is a files only cause = record {
 
 pub back-all : {F : Type 0} (xs ys : List F) (count : F → ℕ) (old new : View) → xs ≡ ys → TakesBack ((f : F) × Contains xs f × (0 < count f)) old new → TakesBack ((f : F) × Contains ys f × (0 < count f)) old new
 back-all {F} xs ys count old new e b = subst (λ l. TakesBack ((f : F) × Contains l f × (0 < count f)) old new) e b
-
--- ## Disks for blocks, which leave all files alone
-
-spills-read : (old new : View) → OnlySpills old new → OnlyReads old new
-spills-read old new s = record { gave = more_same old.gave new.gave s.gave; out = s.out; err = s.err; write_faults = s.write_faults; print_faults = s.print_faults; note_faults = s.note_faults }
-
-pub spills-first : (names : List (List ℕ)) (k : ℕ) (old mid new : View) → OnlySpills old mid → OpensOften names k mid new → OpensOften names k old new
-spills-first names k old mid new s a =
-    let r : OnlyReads old new = reads_then old mid new (spills-read old mid s) a.only in
-    let P : Files → Type 0 = λ f. OpensOften names k (record old { files = f }) new in
-    subst P s.files (record {
-      tells = a.tells;
-      held = a.held;
-      created = a.created;
-      opened = a.opened;
-      size_kept = a.size_kept;
-      only = record { gave = r.gave; out = r.out; err = r.err; write_faults = r.write_faults; print_faults = r.print_faults; note_faults = r.note_faults };
-      later = omega (arith, a.later, s.read_faults);
-    })
-
-pub spills-last : (names : List (List ℕ)) (k : ℕ) (old mid new : View) → OpensOften names k old mid → OnlySpills mid new → OpensOften names k old new
-spills-last names k old mid new a s =
-    opens-back names k old mid new ⊥ a (record { files = s.files; only = spills-read mid new s; later = omega (arith, s.read_faults); risen = λ f. absurd f })

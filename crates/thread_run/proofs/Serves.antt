@@ -7,6 +7,7 @@ use Rattle.io_edge.specs.Cause.{Rose}
 use Rattle.io_edge.specs.declared.edge.OpenFault.{OpenFault}
 use Rattle.io_edge.specs.declared.edge.OpenFault.TheVariants as fault
 use Rattle.io_edge.proofs.GivenLaws.{more_same, more_then}
+use Rattle.io_edge.proofs.Only.{spills_none, writes_none}
 use Rattle.io_edge.specs.View.{View, Files, OnlyReads, OnlySpills, OnlyWrites, raised_by, times}
 use Rattle.nd_shape.specs.Block.{Array}
 use Rattle.cluster_msgs.specs.Labels.{LabelFacts}
@@ -32,11 +33,14 @@ use Rattle.job_run.proofs.Counting.{none_raised, raised_at_most}
 use Rattle.job_run.proofs.Running.{left_before, most_before}
 use Rattle.job_run.proofs.SavedKeys.{is-faulty}
 use Rattle.thread_run.specs.Counts.{repeated}
+use Rattle.thread_run.specs.Disks.{AsksUpTo}
 use Rattle.thread_run.specs.Ends.{IsNeededBlock}
 use Rattle.thread_run.specs.Feeding.{OpensOften, TakesBack}
 use Rattle.thread_run.specs.Losses.{IsKill, IsNeededKey, Losses, losses_in}
 use Rattle.thread_run.specs.Serving.{IsUnsaved, IsWhy, ServesAll, ServesFiles, ServesPart, Stops, StopsAt}
 use Rattle.thread_run.proofs.Agreed.{told_run}
+use Rattle.thread_run.proofs.Asking.{asks_after, asks_apart, asks_same, asks_still}
+use Rattle.thread_run.proofs.Openings.{opens-zero}
 use Rattle.thread_run.proofs.Planning.{removes-same}
 use Rattle.thread_run.proofs.SaverEnds.{open-left}
 use Rattle.thread_run.specs.Reports.{IsOutgrown, IsServedRun, IsToldOf, IsToldOfRun, label}
@@ -143,12 +147,12 @@ leaves-none p v = record {
   tells = refl;
   opened = refl;
   created = refl;
-  only = record { gave = refl; out = refl; err = refl; read_faults = refl; print_faults = refl; note_faults = refl };
+  only = writes_none v;
   later = omega arith;
 }
 
 -- files were created, feeds given back, and the files given back
-pub serves-saved : (p : Plan) (Failed : Type 0) (old made back new : View) → SavesFiles p old made → TakesBack Failed made back → LeavesFiles p back new → ServesFiles p 0 old new
+pub serves-saved : (p : Plan) (Failed : Type 0) (old made back new : View) → SavesFiles p old made → TakesBack Failed made back → LeavesFiles p back new → ServesFiles p 0 0 old new
 serves-saved p Failed old made back new s t l =
     let created : back.files.created ≡ made.files.created = ap (λ (f : Files). f.created) t.files in
     let same : (n : List ℕ) → new.files.created n ≡ made.files.created n = λ n. ap (λ (f : List ℕ → ℕ). f n) (l.created ∙ created) in
@@ -157,33 +161,35 @@ serves-saved p Failed old made back new s t l =
       tells = l.tells ∙ (ap (λ (f : Files). f.tells) t.files ∙ s.tells);
       opened = none_raised [] old.files.opened new.files.opened (l.opened ∙ (ap (λ (f : Files). f.opened) t.files ∙ s.opened));
       created = record { grows = λ n. omega (arith, s.created.grows n, same n); at_most = λ n. omega (arith, s.created.at_most n, same n) };
-      gave = more_then old.gave back.gave new.gave (more_then old.gave made.gave back.gave (more_same old.gave made.gave s.only.gave) t.only.gave) (more_same back.gave new.gave l.only.gave);
-      out = l.only.out ∙ (t.only.out ∙ s.only.out);
-      err = l.only.err ∙ (t.only.err ∙ s.only.err);
-      note_faults = l.only.note_faults ∙ (t.only.note_faults ∙ s.only.note_faults);
-      print_faults = l.only.print_faults ∙ (t.only.print_faults ∙ s.only.print_faults);
-      read_later = omega (arith, s.only.read_faults, t.later, l.only.read_faults);
-      write_later = omega (arith, s.later, t.only.write_faults, l.later);
+      gave = more_then old.gave back.gave new.gave (more_then old.gave made.gave back.gave (more_same old.gave made.gave (ap (λ (v : View). v.gave) s.only.rest)) t.only.gave) (more_same back.gave new.gave (ap (λ (v : View). v.gave) l.only.rest));
+      out = ap (λ (v : View). v.out) l.only.rest ∙ (ap (λ (v : View). v.out) t.only.rest ∙ ap (λ (v : View). v.out) s.only.rest);
+      err = ap (λ (v : View). v.err) l.only.rest ∙ (ap (λ (v : View). v.err) t.only.rest ∙ ap (λ (v : View). v.err) s.only.rest);
+      note_faults = ap (λ (v : View). v.note_faults) l.only.rest ∙ (ap (λ (v : View). v.note_faults) t.only.rest ∙ ap (λ (v : View). v.note_faults) s.only.rest);
+      print_faults = ap (λ (v : View). v.print_faults) l.only.rest ∙ (ap (λ (v : View). v.print_faults) t.only.rest ∙ ap (λ (v : View). v.print_faults) s.only.rest);
+      read_later = omega (arith, ap (λ (v : View). v.read_faults) s.only.rest, t.later, ap (λ (v : View). v.read_faults) l.only.rest);
+      write_later = omega (arith, s.later, ap (λ (v : View). v.write_faults) t.only.rest, l.later);
+      asks = asks_same 0 old new (ap (λ (v : View). v.spills) l.only.rest ∙ (ap (λ (v : View). v.spills) t.only.rest ∙ ap (λ (v : View). v.spills) s.only.rest));
     }
 
 -- nothing was created
-pub serves-none : (p : Plan) (most : ℕ) (old new : View) → OpensOften p.inputs most old new → ServesFiles p most old new
+pub serves-none : (p : Plan) (most : ℕ) (old new : View) → OpensOften p.inputs most old new → ServesFiles p most 0 old new
 serves-none p most old new o = record {
   others = λ n none. ap (λ (f : List ℕ → Option (List ℕ)). f n) o.held;
   tells = o.tells;
   opened = o.opened;
   created = none_raised (names_saved p) old.files.created new.files.created o.created;
   gave = o.only.gave;
-  out = o.only.out;
-  err = o.only.err;
-  note_faults = o.only.note_faults;
-  print_faults = o.only.print_faults;
+  out = ap (λ (v : View). v.out) o.only.rest;
+  err = ap (λ (v : View). v.err) o.only.rest;
+  note_faults = ap (λ (v : View). v.note_faults) o.only.rest;
+  print_faults = ap (λ (v : View). v.print_faults) o.only.rest;
   read_later = o.later;
-  write_later = omega (arith, o.only.write_faults);
+  write_later = omega (arith, ap (λ (v : View). v.write_faults) o.only.rest);
+  asks = asks_same 0 old new (ap (λ (v : View). v.spills) o.only.rest);
 }
 
 -- feeds were opened before
-pub serves-opened : (p : Plan) (most : ℕ) (old mid new : View) → OpensOften p.inputs most old mid → ServesFiles p 0 mid new → ServesFiles p most old new
+pub serves-opened : (p : Plan) (most : ℕ) (old mid new : View) → OpensOften p.inputs most old mid → ServesFiles p 0 0 mid new → ServesFiles p most 0 old new
 serves-opened p most old mid new o s =
     let none : (n : List ℕ) → times n (repeated 0 p.inputs) ≡ 0 = λ n. refl in
     record {
@@ -192,53 +198,59 @@ serves-opened p most old mid new o s =
       opened = record { grows = λ n. omega (arith, o.opened.grows n, s.opened.grows n); at_most = λ n. omega (arith, o.opened.at_most n, s.opened.at_most n, none n) };
       created = most_before (names_saved p) old.files.created mid.files.created new.files.created o.created s.created;
       gave = more_then old.gave mid.gave new.gave o.only.gave s.gave;
-      out = s.out ∙ o.only.out;
-      err = s.err ∙ o.only.err;
-      note_faults = s.note_faults ∙ o.only.note_faults;
-      print_faults = s.print_faults ∙ o.only.print_faults;
+      out = s.out ∙ ap (λ (v : View). v.out) o.only.rest;
+      err = s.err ∙ ap (λ (v : View). v.err) o.only.rest;
+      note_faults = s.note_faults ∙ ap (λ (v : View). v.note_faults) o.only.rest;
+      print_faults = s.print_faults ∙ ap (λ (v : View). v.print_faults) o.only.rest;
       read_later = omega (arith, o.later, s.read_later);
-      write_later = omega (arith, o.only.write_faults, s.write_later);
+      write_later = omega (arith, ap (λ (v : View). v.write_faults) o.only.rest, s.write_later);
+      asks = asks_after 0 old.spills.asked mid.spills.asked new.spills.asked (ap (λ (v : View). v.spills.asked) o.only.rest) s.asks;
     }
 
 -- a store was given back before
-pub serves-after : (p : Plan) (most : ℕ) (old mid new : View) → mid.files ≡ old.files → OnlyReads old mid → mid.read_faults ≡ old.read_faults → ServesFiles p most mid new → ServesFiles p most old new
-serves-after p most old mid new same only reads f =
-    let P : Files → Type 0 = λ x. ServesFiles p most (record old { files = x }) new in
+pub serves-after : (p : Plan) (most last : ℕ) (old mid new : View) → mid.files ≡ old.files → OnlyReads old mid → mid.read_faults ≡ old.read_faults → ServesFiles p most last mid new → ServesFiles p most last old new
+serves-after p most last old mid new same only reads f =
+    let P : Files → Type 0 = λ x. ServesFiles p most last (record old { files = x }) new in
     subst P same (record {
       others = f.others;
       tells = f.tells;
       opened = f.opened;
       created = f.created;
       gave = more_then old.gave mid.gave new.gave only.gave f.gave;
-      out = f.out ∙ only.out;
-      err = f.err ∙ only.err;
-      note_faults = f.note_faults ∙ only.note_faults;
-      print_faults = f.print_faults ∙ only.print_faults;
+      out = f.out ∙ ap (λ (v : View). v.out) only.rest;
+      err = f.err ∙ ap (λ (v : View). v.err) only.rest;
+      note_faults = f.note_faults ∙ ap (λ (v : View). v.note_faults) only.rest;
+      print_faults = f.print_faults ∙ ap (λ (v : View). v.print_faults) only.rest;
       read_later = omega (arith, f.read_later, reads);
-      write_later = omega (arith, f.write_later, only.write_faults);
+      write_later = omega (arith, f.write_later, ap (λ (v : View). v.write_faults) only.rest);
+      asks = asks_after last old.spills.asked mid.spills.asked new.spills.asked (ap (λ (v : View). v.spills.asked) only.rest) f.asks;
     })
 
--- disks were made before and given back after
-spills-read : (old new : View) → OnlySpills old new → OnlyReads old new
-spills-read old new s = record { gave = more_same old.gave new.gave s.gave; out = s.out; err = s.err; write_faults = s.write_faults; print_faults = s.print_faults; note_faults = s.note_faults }
-
-pub serves-between : (p : Plan) (most : ℕ) (old mid served new : View) → OnlySpills old mid → ServesFiles p most mid served → OnlySpills served new → ServesFiles p most old new
-serves-between p most old mid served new a f b =
-    let g : ServesFiles p most old served = serves-after p most old mid served a.files (spills-read old mid a) a.read_faults f in
-    let P : Files → Type 0 = λ x. ServesFiles p most old (record new { files = x }) in
-    subst P (sym b.files) (record {
-      others = g.others;
-      tells = g.tells;
-      opened = g.opened;
-      created = g.created;
-      gave = more_then old.gave served.gave new.gave g.gave (more_same served.gave new.gave b.gave);
-      out = b.out ∙ g.out;
-      err = b.err ∙ g.err;
-      note_faults = b.note_faults ∙ g.note_faults;
-      print_faults = b.print_faults ∙ g.print_faults;
-      read_later = omega (arith, g.read_later, b.read_faults);
-      write_later = omega (arith, g.write_later, b.write_faults);
+-- disks were asked for before and given back after
+pub serves-between : (p : Plan) (most last : ℕ) (old mid served new : View) → OnlySpills old mid → AsksUpTo last old.spills.asked mid.spills.asked → ServesFiles p most 0 mid served → OnlySpills served new
+    → new.spills.asked ≡ served.spills.asked → ServesFiles p most last old new
+serves-between p most last old mid served new a asks f b still =
+    let before : mid.files ≡ old.files = ap (λ (v : View). v.files) a.rest in
+    let after : new.files ≡ served.files = ap (λ (v : View). v.files) b.rest in
+    let P : Files × Files → Type 0 = λ x. ServesFiles p most last (record old { files = x.0 }) (record new { files = x.1 }) in
+    subst P (λ i. (before i, sym after i)) (record {
+      others = f.others;
+      tells = f.tells;
+      opened = f.opened;
+      created = f.created;
+      gave = more_then old.gave served.gave new.gave (more_then old.gave mid.gave served.gave (more_same old.gave mid.gave (ap (λ (v : View). v.gave) a.rest)) f.gave) (more_same served.gave new.gave (ap (λ (v : View). v.gave) b.rest));
+      out = ap (λ (v : View). v.out) b.rest ∙ (f.out ∙ ap (λ (v : View). v.out) a.rest);
+      err = ap (λ (v : View). v.err) b.rest ∙ (f.err ∙ ap (λ (v : View). v.err) a.rest);
+      note_faults = ap (λ (v : View). v.note_faults) b.rest ∙ (f.note_faults ∙ ap (λ (v : View). v.note_faults) a.rest);
+      print_faults = ap (λ (v : View). v.print_faults) b.rest ∙ (f.print_faults ∙ ap (λ (v : View). v.print_faults) a.rest);
+      read_later = omega (arith, ap (λ (v : View). v.read_faults) a.rest, f.read_later, ap (λ (v : View). v.read_faults) b.rest);
+      write_later = omega (arith, ap (λ (v : View). v.write_faults) a.rest, f.write_later, ap (λ (v : View). v.write_faults) b.rest);
+      asks = asks_still last old.spills.asked served.spills.asked new.spills.asked (asks_apart last old.spills.asked mid.spills.asked served.spills.asked asks f.asks) still;
     })
+
+-- disks were asked for, and no more
+pub serves-spilled : (p : Plan) (most last : ℕ) (old new : View) → OnlySpills old new → AsksUpTo last old.spills.asked new.spills.asked → ServesFiles p most last old new
+serves-spilled p most last old new only asks = serves-between p most last old new new new only asks (serves-none p most new new (opens-zero p.inputs most new)) (spills_none new) refl
 
 -- ## The ends
 

@@ -15,7 +15,8 @@ use Rattle.job_run.specs.Part.{IsNoneOf, RaisedAtMost}
 use Rattle.job_run.specs.Plan.{Plan, names_saved}
 use Rattle.job_run.specs.Runs.{AreRight, AreUntouched, IsFitGiven, IsSmall, Cause as RunCause, Saves as RunSaves, Created as RunCreated, StopsPrinting}
 use Rattle.job_run.specs.Values.{Named, OnInputs, IsFaulty, IsNeeded, MeetsNone, index_of, saved_lines, tasks_of}
-use Rattle.thread_run.specs.Counts.{RaisedBetween, feeds, repeated}
+use Rattle.thread_run.specs.Counts.{RaisedBetween, feeds, numbers, repeated}
+use Rattle.thread_run.specs.Disks.{AsksUpTo}
 use Rattle.task_graph.specs.Graphs.{shape_of}
 use Rattle.thread_run.specs.Feeding.{is_told}
 use Rattle.thread_run.specs.Losses.{IsKill, IsNeededKey, losses_by}
@@ -139,6 +140,7 @@ pub record LeavesAs (p : Plan) (w : RunWords) (old new : View) (end : Ended) : T
   pub gave : GivesMore old.gave new.gave
   pub err : new.err ≡ old.err
   pub note_faults : new.note_faults ≡ old.note_faults
+  pub asks : AsksUpTo (numbers w) old.spills.asked new.spills.asked
 
 -- an end for the events of a core leaves what one for want of memory leaves
 abbrev pub left_as : ThreadEnded → Ended

@@ -1,4 +1,5 @@
 pub mod Counts
+pub mod Disks
 pub mod Ends
 pub mod Feeding
 pub mod Keeping

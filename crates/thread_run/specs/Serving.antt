@@ -16,6 +16,7 @@ use Rattle.job_run.specs.Plan.{Plan, names_saved}
 use Rattle.job_run.specs.Values.{Named, IsFaulty, MeetsNone, files_of}
 use Rattle.job_run.specs.Wanted.{EndsAtKey}
 use Rattle.thread_run.specs.Counts.{repeated}
+use Rattle.thread_run.specs.Disks.{AsksUpTo}
 use Rattle.thread_run.specs.Ends.{IsNeededBlock}
 use Rattle.thread_run.specs.Losses.{Losses, IsKill, IsNeededKey}
 
@@ -55,8 +56,8 @@ Stops p most named told reads writes WriteFault = writes
 Stops p most named told reads writes OutOfMemory = Unit {0}
 Stops p most named told reads writes end = ⊥
 
--- nothing but at most so many openings of the inputs, reads, creations and writes of the saved files
-pub record ServesFiles (p : Plan) (most : ℕ) (old new : View) : Type 0 where
+-- Nothing but at most so many openings of the inputs, reads, creations and writes of the saved files, and calls for the disks of the workers up to a number.
+pub record ServesFiles (p : Plan) (most last : ℕ) (old new : View) : Type 0 where
   pub others : (n : List ℕ) → IsNoneOf n (names_saved p) → new.files.held n ≡ old.files.held n
   pub tells : new.files.tells ≡ old.files.tells
   pub opened : RaisedAtMost (repeated most p.inputs) old.files.opened new.files.opened
@@ -68,6 +69,7 @@ pub record ServesFiles (p : Plan) (most : ℕ) (old new : View) : Type 0 where
   pub print_faults : new.print_faults ≡ old.print_faults
   pub read_later : old.read_faults ≤ new.read_faults
   pub write_later : old.write_faults ≤ new.write_faults
+  pub asks : AsksUpTo last old.spills.asked new.spills.asked
 
 -- all that is wanted was saved
 pub record ServesAll (p : Plan) (named : Named) (told : Type 0) (old new : Files) : Type 0 where

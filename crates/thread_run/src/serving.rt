@@ -15,7 +15,7 @@ ghost use Rattle.job_run.specs.Runs.{IsFitGiven};
 ghost use Rattle.node_runner.specs.Runs.{numbers as numbers_of};
 ghost use Rattle.node_runner.specs.declared.ends.RunStatus.TheVariants as status;
 ghost use Rattle.task_graph.specs.Graphs.{shape_of};
-ghost use Rattle.thread_run.specs.Counts.{feeds as feeds_of};
+ghost use Rattle.thread_run.specs.Counts.{feeds as feeds_of, numbers as numbers_in};
 ghost use Rattle.thread_run.specs.Feeding.{IsFixed};
 ghost use Rattle.thread_run.specs.Losses.{losses_by, losses_in};
 ghost use Rattle.thread_run.specs.Planning.{IsRunPlan};
@@ -154,7 +154,7 @@ where
     requires allowed { P.allowed ≡ plan.now.allowed }
     requires tasks { graph.now.job.tasks ≡ tasks_of (plan_of job.now) }
     requires plan { IsRunPlan plan.now }
-    ensures files { ServesFiles (plan_of job.now) 0 (S.view site.old) (S.view site.new) }
+    ensures files { ServesFiles (plan_of job.now) 0 0 (S.view site.old) (S.view site.new) }
     ensures served { OnOk result.0 (ServesAll (plan_of job.now) E.named (IsTrue V.told) (S.view site.old).files (S.view site.new).files) }
     ensures histories { IfOk result.0 (IsServedRun ⟦<RunLabel<Graphed<S::In, E, V>, Named<V, P>> as Label>⟧.facts
         (graph_of graph.now.job) plan.now wanted.now.all) }
@@ -240,7 +240,7 @@ where
     requires tasks { graph.now.job.tasks ≡ tasks_of (plan_of job.now) }
     requires fixed { IsFixed E.named V.told (plan_of job.now).inputs graph.now.job.heads (S.view site.old).files }
     requires plan { IsRunPlan plan.now }
-    ensures files { ServesFiles (plan_of job.now) (numbers_of plan.now * plan.now.threads) (S.view site.old) (S.view site.new) }
+    ensures files { ServesFiles (plan_of job.now) (numbers_of plan.now * plan.now.threads) 0 (S.view site.old) (S.view site.new) }
     ensures served { OnOk result.0 (ServesAll (plan_of job.now) E.named (IsTrue V.told) (S.view site.old).files (S.view site.new).files) }
     ensures histories { IfOk result.0 (IsServedRun ⟦<RunLabel<Graphed<S::In, E, V>, Named<V, P>> as Label>⟧.facts
         (graph_of graph.now.job) plan.now wanted.now.all) }
@@ -285,7 +285,7 @@ where
     requires tasks { graph.now.job.tasks ≡ tasks_of (plan_of job.now) }
     requires fixed { IsFixed E.named V.told (plan_of job.now).inputs graph.now.job.heads (S.view site.old).files }
     requires plan { IsRunPlan plan.now }
-    ensures files { ServesFiles (plan_of job.now) (numbers_of plan.now * plan.now.threads) (S.view site.old) (S.view site.new) }
+    ensures files { ServesFiles (plan_of job.now) (numbers_of plan.now * plan.now.threads) (numbers_of plan.now) (S.view site.old) (S.view site.new) }
     ensures served { OnOk result (ServesAll (plan_of job.now) E.named (IsTrue V.told) (S.view site.old).files (S.view site.new).files) }
     ensures histories { IfOk result (IsServedRun ⟦<RunLabel<Graphed<S::In, E, V>, Named<V, P>> as Label>⟧.facts
         (graph_of graph.now.job) plan.now wanted.now.all) }
@@ -333,7 +333,7 @@ where
     requires tasks { graph.now.job.tasks ≡ tasks_of (plan_of job.now) }
     requires fixed { IsFixed E.named V.told (plan_of job.now).inputs graph.now.job.heads (S.view site.old).files }
     requires plan { IsRunPlan plan.now }
-    ensures files { ServesFiles (plan_of job.now) (numbers_of plan.now * plan.now.threads) (S.view site.old) (S.view site.new) }
+    ensures files { ServesFiles (plan_of job.now) (numbers_of plan.now * plan.now.threads) (numbers_of plan.now) (S.view site.old) (S.view site.new) }
     ensures served { OnOk result (ServesAll (plan_of job.now) E.named (IsTrue V.told) (S.view site.old).files (S.view site.new).files) }
     ensures asked { IfOk result (λ told. is_some told.report ≡ asked) }
     ensures told { IfOk result (IsToldOfRun (label V.told plan.now.allowed E.named (tasks_of (plan_of job.now)))
@@ -389,7 +389,7 @@ where
     requires fresh { S.In.count inputs.store ≡ 0 }
     requires words { AreRunSettings words }
     requires given { OnGiven (S.In.gave inputs.store) (λ holds. FitInputs (plan_of job.now) (map holds (plan_of job.now).inputs)) }
-    ensures files { ServesFiles (plan_of job.now) (feeds_of words) (S.view site.old) (S.view site.new) }
+    ensures files { ServesFiles (plan_of job.now) (feeds_of words) (numbers_in words) (S.view site.old) (S.view site.new) }
     ensures given { IsFitGiven (plan_of job.now) (S.view site.old) (S.view site.new) }
     ensures served { OnOk result (ServesAll (plan_of job.now) E.named (IsTrue V.told) (S.view site.old).files (S.view site.new).files) }
     ensures asked { IfOk result (λ told. is_some told.report ≡ words.report) }
@@ -435,6 +435,7 @@ fn plan_in(words: RunWords) -> RunPlan
     ensures plan { IsRunPlan result }
     ensures same { IsPlanOf words result }
     ensures feeds { numbers_of result * result.threads ≡ feeds_of words }
+    ensures numbers { numbers_of result ≡ numbers_in words }
 {
     let RunWords {
         job: _,

@@ -2,6 +2,7 @@
 ghost use Rattle.std.specs.Prelude.{◌≡◌, IfOk, IfSome};
 ghost use Rattle.io_edge.specs.Disk.{fresh_disk};
 ghost use Rattle.io_edge.specs.View.{OnlySpills};
+ghost use Rattle.thread_run.specs.Disks.{AsksFor, AsksUpTo};
 ghost use Rattle.worker_store.specs.Keeping.{IsDiskFor};
 
 use cluster_msgs::Label;
@@ -11,6 +12,7 @@ use std::alloc::{AllocError, Global};
 use worker_store::SpillingBlocks;
 
 // The disk of a worker. Where it can't be made the worker has none.
+#[tactic(auto, using(io_edge::proofs::Only::spills_none, crate::proofs::Asking::asks_for, crate::proofs::Asking::asks_not))]
 fn open_disk<S: Site>(
     alloc: Global,
     site: &mut S,
@@ -18,6 +20,7 @@ fn open_disk<S: Site>(
 ) -> Result<Option<S::Spill>, AllocError>
     ensures made { IfOk result (λ o. IfSome o (λ d. S.Spill.view d ≡ fresh_disk (S.view site.old).files.tells)) }
     ensures only { OnlySpills (S.view site.old) (S.view site.new) }
+    ensures asks { AsksFor worker (S.view site.old).spills.asked (S.view site.new).spills.asked }
 {
     match site.spill(alloc, worker) {
         Ok(disk) => Ok(Some(disk)),
@@ -27,9 +30,10 @@ fn open_disk<S: Site>(
 }
 
 // Gives a disk back, if there is one.
-#[tactic(auto, using(crate::proofs::Disks::spills_none))]
+#[tactic(auto, using(io_edge::proofs::Only::spills_none))]
 fn give_back<S: Site>(site: &mut S, disk: Option<S::Spill>)
-    ensures { OnlySpills (S.view site.old) (S.view site.new) }
+    ensures only { OnlySpills (S.view site.old) (S.view site.new) }
+    ensures asked { (S.view site.new).spills.asked ≡ (S.view site.old).spills.asked }
 {
     if let Some(disk) = disk {
         site.give_spill(disk);
@@ -37,7 +41,7 @@ fn give_back<S: Site>(site: &mut S, disk: Option<S::Spill>)
 }
 
 // The store of a worker, whose blocks in memory have at most so many bytes.
-#[tactic(auto, using(crate::proofs::Disks::spills_then))]
+#[tactic(auto, using(io_edge::proofs::Only::spills_then, crate::proofs::Asking::for_still))]
 fn open_store<S: Site, L: Label<Block = Block>>(
     alloc: Global,
     site: &mut S,
@@ -45,7 +49,8 @@ fn open_store<S: Site, L: Label<Block = Block>>(
     memory: u64,
 ) -> Result<SpillingBlocks<S::Spill, L>, AllocError>
     requires { IsDiskFor L.facts (fresh_disk (S.view site.old).files.tells) }
-    ensures { OnlySpills (S.view site.old) (S.view site.new) }
+    ensures only { OnlySpills (S.view site.old) (S.view site.new) }
+    ensures asks { AsksFor worker (S.view site.old).spills.asked (S.view site.new).spills.asked }
 {
     let disk = open_disk(alloc, site, worker)?;
     match SpillingBlocks::new(alloc, disk, memory) {
@@ -58,7 +63,7 @@ fn open_store<S: Site, L: Label<Block = Block>>(
 }
 
 // The stores of the workers up to a number.
-#[tactic(auto, using(crate::proofs::Disks::spills_none, crate::proofs::Disks::spills_then))]
+#[tactic(auto, using(io_edge::proofs::Only::spills_then, crate::proofs::Asking::asks_fewer, crate::proofs::Asking::asks_next))]
 fn open_each<S: Site, L: Label<Block = Block>>(
     alloc: Global,
     site: &mut S,
@@ -67,7 +72,8 @@ fn open_each<S: Site, L: Label<Block = Block>>(
     all: &mut Vec<SpillingBlocks<S::Spill, L>>,
 ) -> Result<(), AllocError>
     requires { IsDiskFor L.facts (fresh_disk (S.view site.old).files.tells) }
-    ensures { OnlySpills (S.view site.old) (S.view site.new) }
+    ensures only { OnlySpills (S.view site.old) (S.view site.new) }
+    ensures asks { AsksUpTo numbers (S.view site.old).spills.asked (S.view site.new).spills.asked }
 {
     for before in 0..numbers {
         all.reserve(1)?;
@@ -82,7 +88,7 @@ fn open_each<S: Site, L: Label<Block = Block>>(
 ///
 /// # Errors
 /// Where no memory is left.
-#[tactic(auto, using(crate::proofs::Disks::spills_then))]
+#[tactic(auto, using(io_edge::proofs::Only::spills_then, crate::proofs::Asking::asks_still))]
 pub fn open_stores<S: Site, L: Label<Block = Block>>(
     alloc: Global,
     site: &mut S,
@@ -90,7 +96,8 @@ pub fn open_stores<S: Site, L: Label<Block = Block>>(
     memory: u64,
 ) -> Result<Vec<SpillingBlocks<S::Spill, L>>, AllocError>
     requires { IsDiskFor L.facts (fresh_disk (S.view site.old).files.tells) }
-    ensures { OnlySpills (S.view site.old) (S.view site.new) }
+    ensures only { OnlySpills (S.view site.old) (S.view site.new) }
+    ensures asks { AsksUpTo numbers (S.view site.old).spills.asked (S.view site.new).spills.asked }
 {
     let mut all = Vec::new(alloc);
     match open_each(alloc, site, numbers, memory, &mut all) {
@@ -103,12 +110,13 @@ pub fn open_stores<S: Site, L: Label<Block = Block>>(
 }
 
 /// Gives the disks of stores back. Their blocks are dropped.
-#[tactic(auto, using(crate::proofs::Disks::spills_none, crate::proofs::Disks::spills_then))]
+#[tactic(auto, using(io_edge::proofs::Only::spills_none, io_edge::proofs::Only::spills_then))]
 pub fn give_stores<S: Site, L: Label<Block = Block>>(
     site: &mut S,
     stores: Vec<SpillingBlocks<S::Spill, L>>,
 )
-    ensures { OnlySpills (S.view site.old) (S.view site.new) }
+    ensures only { OnlySpills (S.view site.old) (S.view site.new) }
+    ensures asked { (S.view site.new).spills.asked ≡ (S.view site.old).spills.asked }
 {
     for store in stores {
         give_back(site, store.into_disk());

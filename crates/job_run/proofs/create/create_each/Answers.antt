@@ -1,4 +1,5 @@
 use Rattle.std.proofs.Common.{◌≡◌, ℕ, List, ◌<◌, ◌∙◌, refl, ap, sym, subst, length, get_or, arith}
+use Rattle.io_edge.proofs.Only.{writes_none, writes_then}
 use Rattle.std.proofs.lemmas.List.{length-map}
 use Rattle.small_facts.proofs.Results.{on_err_from}
 use Rattle.array_expr.specs.Node.{shape_at}
@@ -16,7 +17,7 @@ loop-save-init g c = record {
       let site = (g.S.Site.view c.args.site.now).files in
       let P : List Saving → Type 0 = λ files. CreatesFirst (plan_of c.args.job.now) 0 site site files in
       subst P (sym c.requires.none) (creates_none (plan_of c.args.job.now) site);
-  only = record { gave = refl; out = refl; err = refl; read_faults = refl; print_faults = refl; note_faults = refl };
+  only = writes_none (g.S.Site.view c.args.site.now);
   later = omega arith;
 }
 
@@ -66,13 +67,6 @@ loop-save-preserved g c =
             same = c.in_ok-create.ensures.same;
             fresh = c.in_ok-create.ensures.fresh;
           });
-      only = record {
-        gave = c.create.ensures.only.gave ∙ c.loop-save.invariant.only.gave;
-        out = c.create.ensures.only.out ∙ c.loop-save.invariant.only.out;
-        err = c.create.ensures.only.err ∙ c.loop-save.invariant.only.err;
-        read_faults = c.create.ensures.only.read_faults ∙ c.loop-save.invariant.only.read_faults;
-        print_faults = c.create.ensures.only.print_faults ∙ c.loop-save.invariant.only.print_faults;
-        note_faults = c.create.ensures.only.note_faults ∙ c.loop-save.invariant.only.note_faults;
-      };
+      only = writes_then _ _ _ c.loop-save.invariant.only c.create.ensures.only;
       later = omega (arith, c.loop-save.invariant.later, c.create.ensures.cause.later);
     }

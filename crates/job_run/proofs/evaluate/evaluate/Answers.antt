@@ -1,5 +1,6 @@
 use Rattle.std.proofs.Common.{◌≡◌, ◌++◌, ◌∙◌, ap, ap₂, sym, subst, ℕ, List, arith, Err}
 use Rattle.io_edge.specs.Given.{Agree}
+use Rattle.io_edge.specs.View.{View}
 use Rattle.block_lowering.specs.Jobs.{TellsFeed}
 use Rattle.job_run.specs.declared.ends.Ended.{Ended}
 use Rattle.job_run.specs.declared.ends.Ended.TheVariants.{WriteFault, OutOfMemory}
@@ -26,7 +27,7 @@ returns-in-Err g c =
     let P : Ended → Type 0 = λ end. EvaluatesInputs p named told old new end in
     elim c.match-fault.branch [
       | in-Failed w ↦
-          let rose = rose_from old.write_faults old.write_faults mid.write_faults new.write_faults (omega arith) (omega (arith, s.reads.write_faults)) (e.cause.failed (ap Err w.in-Failed.is)) in
+          let rose = rose_from old.write_faults old.write_faults mid.write_faults new.write_faults (omega arith) (omega (arith, ap (λ (v : View). v.write_faults) s.reads.rest)) (e.cause.failed (ap Err w.in-Failed.is)) in
           subst P (sym w.result-is) (refused p named old mid new told WriteFault shapes r s rose tt tt (λ most. most))
       | in-OutOfMemory w ↦ subst P (sym w.result-is) (refused p named old mid new told OutOfMemory shapes r s tt tt tt (λ most. most))
     ]
@@ -84,7 +85,7 @@ returns-in-Ok-made g c =
     record { declared = c.requires.runs.inputs; heads_are = c.requires.heads; count = c.requires.count; fit = c.requires.given; have = c.requires.given_heads } in
     let earlier : (holds : List ℕ → List ℕ) → Agree holds pieces → Agree holds opened = λ holds agree.
     subst (λ x. Agree holds x) (ap g.S.In.Store.gave c.in-Ok-begin.ensures.feed) (c.make_blocks-made.ensures.agreed holds agree) in
-    let is : new.gave ≡ old.gave ++ pieces = b.only.gave ∙ (s.gave ∙ ap₂ (λ x y. x ++ y) e.only.gave (ap g.S.In.Store.gave c.into_feed.ensures)) in
+    let is : new.gave ≡ old.gave ++ pieces = ap (λ (v : View). v.gave) b.only.rest ∙ (s.gave ∙ ap₂ (λ x y. x ++ y) (ap (λ (v : View). v.gave) e.only.rest) (ap g.S.In.Store.gave c.into_feed.ensures)) in
     let begun_heads : begun.job.job.heads ≡ heads = heads_same begun.job.job c.args.lowered.graph heads c.in-Ok-begin.ensures.job in
     let begun_names : g.S.In.Store.names begun.feed ≡ p.inputs = ap g.S.In.Store.names c.in-Ok-begin.ensures.feed ∙ c.requires.named in
     let over : (P : Named → Type 0) → GivenOver begun.job.job.heads (g.S.In.Store.names begun.feed) pieces P → OfGiven p old new P = λ P given_over.
@@ -121,7 +122,7 @@ returns g c =
     record { declared = c.requires.runs.inputs; heads_are = c.requires.heads; count = c.requires.count; fit = c.requires.given; have = c.requires.given_heads } in
     let earlier : (holds : List ℕ → List ℕ) → Agree holds pieces → Agree holds opened = λ holds agree.
     subst (λ x. Agree holds x) (ap g.S.In.Store.gave c.in-Ok-begin.ensures.feed) (c.make_blocks-made.ensures.agreed holds agree) in
-    let is : new.gave ≡ old.gave ++ pieces = b.only.gave ∙ (s.gave ∙ ap₂ (λ x y. x ++ y) e.only.gave (ap g.S.In.Store.gave c.into_feed.ensures)) in
+    let is : new.gave ≡ old.gave ++ pieces = ap (λ (v : View). v.gave) b.only.rest ∙ (s.gave ∙ ap₂ (λ x y. x ++ y) (ap (λ (v : View). v.gave) e.only.rest) (ap g.S.In.Store.gave c.into_feed.ensures)) in
     let begun_heads : begun.job.job.heads ≡ heads = heads_same begun.job.job c.args.lowered.graph heads c.in-Ok-begin.ensures.job in
     let begun_names : g.S.In.Store.names begun.feed ≡ p.inputs = ap g.S.In.Store.names c.in-Ok-begin.ensures.feed ∙ c.requires.named in
     let over : (P : Named → Type 0) → GivenOver begun.job.job.heads (g.S.In.Store.names begun.feed) pieces P → OfGiven p old new P = λ P given_over.

@@ -12,3 +12,6 @@ returns-clause-plan c = record {
 
 pub returns-clause-feeds : goal.returns-clause-feeds
 returns-clause-feeds c = ap (λ n. (c.args.words.settings.workers + n) * c.args.words.settings.threads) (joins-same c.args.words.script)
+
+pub returns-clause-numbers : goal.returns-clause-numbers
+returns-clause-numbers c = ap (λ n. c.args.words.settings.workers + n) (joins-same c.args.words.script)

@@ -78,5 +78,5 @@ returns-clause-stopped g c =
       | inl short ↦ rose_after old.read_faults mid.read_faults new.read_faults c.run_saved.ensures.files.read_later (c.in-Ok.ensures.short short.0 short.1 short.2)
       | inr rose ↦ rose_first old.read_faults mid.read_faults new.read_faults o.later rose
     ])
-    (λ rose. rose_first old.write_faults mid.write_faults new.write_faults (omega (arith, o.only.write_faults)) rose) part)
+    (λ rose. rose_first old.write_faults mid.write_faults new.write_faults (omega (arith, ap (λ (v : View). v.write_faults) o.only.rest)) rose) part)
     c.run_saved.ensures.stopped

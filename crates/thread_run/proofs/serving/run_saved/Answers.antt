@@ -43,7 +43,7 @@ returns-in-Err-clause-stopped g c =
     let new : View = s c.give_all.new.site in
     uncreated p (losses_in c.args.plan.now) named (IsTrue g.V.Veil.told) (HasShort (map (λ v. vec_len v) c.args.feeds.items) c.args.plan.now.threads ⊎ Rose old.read_faults new.read_faults) (Rose old.write_faults new.write_faults) old.files made.files new.files c.in-Err.fault c.unsaved.result
     c.requires.runs (c.laws_hold.ensures named) c.in-Err.ensures.left c.give_all.ensures.files c.open.ensures.some
-    (λ is. rose_after old.write_faults made.write_faults new.write_faults (omega (arith, c.give_all.ensures.only.write_faults)) (c.open.ensures.cause.failed (c.in-Err.is ∙ ap Err is))) c.unsaved.ensures
+    (λ is. rose_after old.write_faults made.write_faults new.write_faults (omega (arith, ap (λ (v : View). v.write_faults) c.give_all.ensures.only.rest)) (c.open.ensures.cause.failed (c.in-Err.is ∙ ap Err is))) c.unsaved.ensures
 
 -- ## The run
 
@@ -135,9 +135,9 @@ returns-clause-stopped g c =
     (why-of facts (graph_of c.args.graph.now.job) c.args.plan.now c.args.wanted.now.all _ reads ends.result ends.left.items ends.histories
     (λ f. elim f [
       | inl few ↦ inl few
-      | inr failed ↦ inr (rose_after old.read_faults back.read_faults new.read_faults (omega (arith, c.give-written.ensures.only.read_faults)) (rose_first old.read_faults made.read_faults back.read_faults (omega (arith, c.open.ensures.only.read_faults)) (c.give_feeds.ensures.risen failed)))
+      | inr failed ↦ inr (rose_after old.read_faults back.read_faults new.read_faults (omega (arith, ap (λ (v : View). v.read_faults) c.give-written.ensures.only.rest)) (rose_first old.read_faults made.read_faults back.read_faults (omega (arith, c.open.ensures.only.read_faults)) (c.give_feeds.ensures.risen failed)))
     ]) c.run_cluster-ends.ensures.ended)
-    (λ e. rose_first old.write_faults back.write_faults new.write_faults (omega (arith, c.open.ensures.cause.later, c.give_feeds.ensures.only.write_faults)) (c.give-written.ensures.failed e)) c.ended.ensures.stopped
+    (λ e. rose_first old.write_faults back.write_faults new.write_faults (omega (arith, c.open.ensures.cause.later, ap (λ (v : View). v.write_faults) c.give_feeds.ensures.only.rest)) (c.give-written.ensures.failed e)) c.ended.ensures.stopped
 
 pub returns-clause-outgrown : goal.returns-clause-outgrown
 returns-clause-outgrown g c = λ is.

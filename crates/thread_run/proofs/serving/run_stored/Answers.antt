@@ -1,4 +1,4 @@
-use Rattle.std.proofs.Common.{◌*◌, arith}
+use Rattle.std.proofs.Common.{◌*◌, ap, arith}
 use Rattle.std.specs.Prelude.{IsTrue}
 use Rattle.std.proofs.lemmas.Result.{IfErr-weaker, IfOk-weaker}
 use Rattle.io_edge.specs.Cause.{Rose}
@@ -12,8 +12,7 @@ use Rattle.thread_run.specs.Losses.{losses_in}
 use Rattle.thread_run.specs.Serving.{ServesAll, ServesPart}
 use Rattle.thread_run.proofs.Disks.{disk-for}
 use Rattle.thread_run.proofs.Fixed.{fixed-kept, told-tells}
-use Rattle.thread_run.proofs.Openings.{opens-zero, spills-last}
-use Rattle.thread_run.proofs.Serves.{all-between, part-between, part_none, rose_after, rose_first, serves-between, serves-none}
+use Rattle.thread_run.proofs.Serves.{all-between, part-between, part_none, rose_after, rose_first, serves-between, serves-spilled}
 use Rattle.thread_run.proofs.serving.run_stored.Goals as goal
 
 pub open_stores-requires-after_bounds : goal.open_stores-requires-after_bounds
@@ -24,7 +23,7 @@ open_stores-requires-after_bounds g c κs within =
 pub run_feeds-served-requires-clause-fixed : goal.run_feeds-served-requires-clause-fixed
 run_feeds-served-requires-clause-fixed g c κs within =
     let s = g.S.Site.view in
-    fixed-kept g.E.Elements.named g.V.Veil.told (plan_of c.args.job.now).inputs c.args.graph.now.job.heads (s c.args.site.now).files (s c.open_stores.new.site).files c.open_stores.ensures.files c.requires.fixed
+    fixed-kept g.E.Elements.named g.V.Veil.told (plan_of c.args.job.now).inputs c.args.graph.now.job.heads (s c.args.site.now).files (s c.open_stores.new.site).files (ap (λ (v : View). v.files) c.open_stores.ensures.only.rest) c.requires.fixed
 
 -- no memory for the stores
 pub returns-in_default-clause-files : goal.returns-in_default-clause-files
@@ -32,8 +31,7 @@ returns-in_default-clause-files g c =
     let p : Plan = plan_of c.args.job.now in
     let s = g.S.Site.view in
     let most = numbers_of c.args.plan.now * c.args.plan.now.threads in
-    serves-none p most (s c.args.site.now) (s c.open_stores.new.site)
-    (spills-last p.inputs most (s c.args.site.now) (s c.args.site.now) (s c.open_stores.new.site) (opens-zero p.inputs most (s c.args.site.now)) c.open_stores.ensures)
+    serves-spilled p most (numbers_of c.args.plan.now) (s c.args.site.now) (s c.open_stores.new.site) c.open_stores.ensures.only c.open_stores.ensures.asks
 
 pub returns-in_default-clause-stopped : goal.returns-in_default-clause-stopped
 returns-in_default-clause-stopped g c =
@@ -41,13 +39,13 @@ returns-in_default-clause-stopped g c =
     let s = g.S.Site.view in
     let old : View = s c.args.site.now in
     let new : View = s c.open_stores.new.site in
-    part_none p (losses_in c.args.plan.now) g.E.Elements.named (IsTrue g.V.Veil.told) (Rose old.read_faults new.read_faults) (Rose old.write_faults new.write_faults) old.files new.files (λ i. (c.open_stores.ensures.files i).held) (λ i. (c.open_stores.ensures.files i).created)
+    part_none p (losses_in c.args.plan.now) g.E.Elements.named (IsTrue g.V.Veil.told) (Rose old.read_faults new.read_faults) (Rose old.write_faults new.write_faults) old.files new.files (λ i. (c.open_stores.ensures.only.rest i).files.held) (λ i. (c.open_stores.ensures.only.rest i).files.created)
 
 pub returns-clause-files : goal.returns-clause-files
 returns-clause-files g c =
     let s = g.S.Site.view in
-    serves-between (plan_of c.args.job.now) (numbers_of c.args.plan.now * c.args.plan.now.threads) (s c.args.site.now) (s c.open_stores.new.site) (s c.run_feeds-served.new.site) (s c.give_stores.new.site) c.open_stores.ensures c.run_feeds-served.ensures.files
-    c.give_stores.ensures
+    serves-between (plan_of c.args.job.now) (numbers_of c.args.plan.now * c.args.plan.now.threads) (numbers_of c.args.plan.now) (s c.args.site.now) (s c.open_stores.new.site) (s c.run_feeds-served.new.site) (s c.give_stores.new.site)
+    c.open_stores.ensures.only c.open_stores.ensures.asks c.run_feeds-served.ensures.files c.give_stores.ensures.only c.give_stores.ensures.asked
 
 pub returns-clause-served : goal.returns-clause-served
 returns-clause-served g c =
@@ -60,7 +58,7 @@ returns-clause-served g c =
     let mid : View = s c.run_feeds-served.new.site in
     let new : View = s c.give_stores.new.site in
     IfOk-weaker c.run_feeds-served.result.0 (λ _. ServesAll p named told disks.files mid.files) (λ _. ServesAll p named told old.files new.files)
-    (λ _ all. all-between p named told old.files disks.files mid.files new.files c.open_stores.ensures.files c.give_stores.ensures.files all) c.run_feeds-served.ensures.served
+    (λ _ all. all-between p named told old.files disks.files mid.files new.files (ap (λ (v : View). v.files) c.open_stores.ensures.only.rest) (ap (λ (v : View). v.files) c.give_stores.ensures.only.rest) all) c.run_feeds-served.ensures.served
 
 pub returns-clause-stopped : goal.returns-clause-stopped
 returns-clause-stopped g c =
@@ -76,7 +74,7 @@ returns-clause-stopped g c =
     let reads : Type 0 = Rose disks.read_faults mid.read_faults in
     let writes : Type 0 = Rose disks.write_faults mid.write_faults in
     IfErr-weaker c.run_feeds-served.result.0 (λ e. ServesPart p most named told reads writes disks.files mid.files (left_as e)) (λ e. ServesPart p most named told (Rose old.read_faults new.read_faults) (Rose old.write_faults new.write_faults) old.files new.files (left_as e))
-    (λ end part. part-between p most named told (Rose old.read_faults new.read_faults) reads (Rose old.write_faults new.write_faults) writes old.files disks.files mid.files new.files (left_as end) c.open_stores.ensures.files c.give_stores.ensures.files
-    (λ rose. rose_after old.read_faults mid.read_faults new.read_faults (omega (arith, c.give_stores.ensures.read_faults)) (rose_first old.read_faults disks.read_faults mid.read_faults (omega (arith, c.open_stores.ensures.read_faults)) rose))
-    (λ rose. rose_after old.write_faults mid.write_faults new.write_faults (omega (arith, c.give_stores.ensures.write_faults)) (rose_first old.write_faults disks.write_faults mid.write_faults (omega (arith, c.open_stores.ensures.write_faults)) rose)) part)
+    (λ end part. part-between p most named told (Rose old.read_faults new.read_faults) reads (Rose old.write_faults new.write_faults) writes old.files disks.files mid.files new.files (left_as end) (ap (λ (v : View). v.files) c.open_stores.ensures.only.rest) (ap (λ (v : View). v.files) c.give_stores.ensures.only.rest)
+    (λ rose. rose_after old.read_faults mid.read_faults new.read_faults (omega (arith, ap (λ (v : View). v.read_faults) c.give_stores.ensures.only.rest)) (rose_first old.read_faults disks.read_faults mid.read_faults (omega (arith, ap (λ (v : View). v.read_faults) c.open_stores.ensures.only.rest)) rose))
+    (λ rose. rose_after old.write_faults mid.write_faults new.write_faults (omega (arith, ap (λ (v : View). v.write_faults) c.give_stores.ensures.only.rest)) (rose_first old.write_faults disks.write_faults mid.write_faults (omega (arith, ap (λ (v : View). v.write_faults) c.open_stores.ensures.only.rest)) rose)) part)
     c.run_feeds-served.ensures.stopped

@@ -1,4 +1,4 @@
-use Rattle.std.proofs.Common.{◌≡◌, ℕ, Option, arith, refl, subst}
+use Rattle.std.proofs.Common.{◌≡◌, ℕ, Option, ap, arith, refl, subst}
 use Rattle.std.specs.Prelude.{IsTrue}
 use Rattle.std.proofs.lemmas.Result.{IfErr-weaker, IfOk-weaker}
 use Rattle.io_edge.specs.Cause.{Rose}
@@ -14,7 +14,7 @@ use Rattle.job_run.specs.Values.{tasks_of}
 use Rattle.job_run.specs.Wanted.{wanted_of}
 use Rattle.job_run.proofs.Laws.{saves-there}
 use Rattle.job_run.proofs.Starting.{is_job}
-use Rattle.thread_run.specs.Counts.{feeds as feeds_of}
+use Rattle.thread_run.specs.Counts.{feeds as feeds_of, numbers as numbers_in}
 use Rattle.thread_run.specs.Ends.{left_as}
 use Rattle.thread_run.specs.Losses.{losses_by, losses_in}
 use Rattle.thread_run.specs.Reports.{IsOutgrown, IsToldBy, IsToldOfRun, label}
@@ -35,8 +35,8 @@ returns-clause-files g c =
     let old : View = g.S.Site.view c.args.site.now in
     let mid : View = g.S.Site.view c.give_store.new.self in
     let new : View = g.S.Site.view c.run_graph.new.site in
-    let F : ℕ → Type 0 = λ n. ServesFiles p n mid new in
-    serves-after p (feeds_of c.args.words) old mid new c.give_store.ensures.files c.give_store.ensures.only (c.give_store.ensures.kept c.requires.fresh) (subst F c.plan_in-plan.ensures.feeds c.run_graph.ensures.files)
+    let F : ℕ × ℕ → Type 0 = λ n. ServesFiles p n.0 n.1 mid new in
+    serves-after p (feeds_of c.args.words) (numbers_in c.args.words) old mid new c.give_store.ensures.files c.give_store.ensures.only (c.give_store.ensures.kept c.requires.fresh) (subst F (λ i. (c.plan_in-plan.ensures.feeds i, c.plan_in-plan.ensures.numbers i)) c.run_graph.ensures.files)
 
 pub returns-clause-given : goal.returns-clause-given
 returns-clause-given g c =
@@ -83,5 +83,5 @@ returns-clause-stopped g c =
     (λ e. ServesPart p (losses_by c.args.words) named told (Rose old.read_faults new.read_faults) (Rose old.write_faults new.write_faults) old.files new.files (left_as e))
     (λ end part. part-between p (losses_by c.args.words) named told (Rose old.read_faults new.read_faults) reads (Rose old.write_faults new.write_faults) writes old.files mid.files new.files new.files (left_as end) c.give_store.ensures.files refl
     (λ rose. rose_first old.read_faults mid.read_faults new.read_faults (let kept = c.give_store.ensures.kept c.requires.fresh in omega (arith, kept)) rose)
-    (λ rose. rose_first old.write_faults mid.write_faults new.write_faults (omega (arith, c.give_store.ensures.only.write_faults)) rose)
+    (λ rose. rose_first old.write_faults mid.write_faults new.write_faults (omega (arith, ap (λ (v : View). v.write_faults) c.give_store.ensures.only.rest)) rose)
     (subst (λ l. ServesPart p l named told reads writes mid.files new.files (left_as end)) same part)) c.run_graph.ensures.stopped
