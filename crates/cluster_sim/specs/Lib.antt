@@ -1,4 +1,5 @@
 pub mod Drawn
+pub mod Kills
 pub mod Plans
 pub mod Standing
 pub mod Seen

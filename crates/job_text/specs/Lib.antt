@@ -1,3 +1,4 @@
+pub mod Fits
 pub mod Names
 pub mod Texts
 pub mod Nodes

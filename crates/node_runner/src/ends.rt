@@ -4,11 +4,13 @@ ghost use Rattle.cluster_rules.specs.Sched.{Facts as SchedFacts, connected};
 ghost use Rattle.gather_client.specs.CoreState.{client_facts};
 ghost use Rattle.scheduler_core.specs.Cores.{facts};
 ghost use Rattle.worker_core.specs.Core.{facts as worker_facts};
-ghost use Rattle.turn_cell.specs.Rows.{AllBy};
+ghost use Rattle.turn_cell.specs.Lists.{AllBy};
 ghost use Rattle.node_states.specs.Fitting.{ClientFits};
 ghost use Rattle.node_states.specs.declared.why.Why.TheVariants as why;
 ghost use Rattle.node_runner.specs.declared.plan.RunPlan.{RunPlan as AnyPlan};
-ghost use Rattle.node_runner.specs.Runs.{HasBlame, HasGot, IsFailure, IsFromWorker, IsGivenUp, IsGot, IsLeft, IsNamed, NoneForMemory};
+ghost use Rattle.node_runner.specs.Runs.{HasGot, IsGot};
+ghost use Rattle.node_runner.specs.Outcomes.{HasBlame, IsFailure, IsGivenUp, IsLeft, IsNamed, NoneForMemory};
+ghost use Rattle.node_runner.specs.Books.{IsFromWorker};
 
 use crate::plan::RunPlan;
 use crate::sink::Sink;

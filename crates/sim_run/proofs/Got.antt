@@ -13,7 +13,8 @@ use Rattle.cluster_sim.specs.Simulations.{HasAll}
 use Rattle.task_graph.specs.Graphs.{operation, shape_of, task_at, value}
 use Rattle.lowering_laws.specs.Lowered.{lowered}
 use Rattle.lowering_laws.specs.Named.{layout_of}
-use Rattle.lowering_laws.specs.Faults.{DividesByZero, IsZeroDivide}
+use Rattle.lowering_laws.specs.Faults.{DividesByZero}
+use Rattle.lowering_laws.specs.FaultLaws.{IsZeroDivide}
 use Rattle.lowering_laws.specs.Whole.{saved_key}
 use Rattle.lowering_laws.proofs.Limits.{limits-law}
 use Rattle.lowering_laws.proofs.Runs.{order-law}

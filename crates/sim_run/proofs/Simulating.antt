@@ -21,7 +21,7 @@ use Rattle.cluster_sim.specs.Plans.{IsPlan, joins_in as plan_joins}
 use Rattle.cluster_sim.specs.Simulations.{HasAll}
 use Rattle.task_graph.specs.Graphs.{shape_of, value}
 use Rattle.lowering_laws.specs.Lowered.{lowered, source_at, lowering}
-use Rattle.lowering_laws.specs.Named.{LawOfNames}
+use Rattle.lowering_laws.specs.NameLaws.{LawOfNames}
 use Rattle.lowering_laws.specs.Whole.{saved_key}
 use Rattle.lowering_laws.proofs.NamesLaw.{names-law}
 use Rattle.command_words.specs.declared.sim.SimWords.{SimWords}

@@ -2,7 +2,7 @@
 ghost use Rattle.std.specs.Prelude.{IfOk, IfErr};
 ghost use Rattle.job_run.specs.Jobs.{plan_of};
 ghost use Rattle.job_run.specs.Plan.{IsRunnable};
-ghost use Rattle.sim_run.specs.Ends.{SavesPlan, SimulatesPlan};
+ghost use Rattle.sim_run.specs.Running.{SavesPlan, SimulatesPlan};
 ghost use Rattle.sim_run.specs.Simulated.{AreSettings};
 
 use crate::ends::SimEnded;

@@ -5,6 +5,8 @@ pub mod Keeping
 pub mod Losses
 pub mod Planning
 pub mod Reports
+pub mod Running
 pub mod Saver
 pub mod Serving
+pub mod Told
 pub mod Writes

@@ -12,9 +12,9 @@ use Rattle.cluster_rules.specs.World.{Job}
 use Rattle.cluster_laws.specs.Blocks.{setting_of}
 use Rattle.task_graph.specs.declared.graph.Task.{Task}
 use Rattle.task_graph.specs.Graphs.{operation, shape_of, task_at}
-use Rattle.plain_eval.specs.Eval.{held_in}
+use Rattle.plain_eval.specs.Held.{held_in}
 use Rattle.journal_audit.specs.Audits.{DiffersAt, IsLegalJournal, events_of}
-use Rattle.journal_audit.specs.Clients.{Gets}
+use Rattle.journal_audit.specs.Got.{Gets}
 use Rattle.journal_audit.specs.Merges.{IsMerge}
 use Rattle.journal_audit.specs.Reports.{taken_of}
 use Rattle.journal_audit.specs.Shapes.{shape_job}
@@ -24,8 +24,8 @@ use Rattle.node_runner.specs.declared.plan.RunPlan.{RunPlan}
 use Rattle.command_words.specs.declared.run.RunWords.{RunWords}
 use Rattle.job_run.specs.Plan.{Plan}
 use Rattle.job_run.specs.Values.{Named, OnInputs, tasks_of}
-use Rattle.job_run.specs.Wanted.{wanted_of}
-use Rattle.thread_run.specs.Feeding.{is_told}
+use Rattle.job_run.specs.Keys.{wanted_of}
+use Rattle.thread_run.specs.Told.{is_told}
 use Rattle.thread_run.specs.declared.verdict.Told.{Told}
 use Rattle.thread_run.specs.declared.verdict.Verdict.{Verdict}
 use Rattle.thread_run.specs.declared.verdict.Verdict.TheVariants.{Agrees, Differs, NotComplete}

@@ -1,8 +1,8 @@
 use Rattle.std.proofs.Common.{◌+◌, take}
 use Rattle.std.specs.Prelude.{IfSome}
 use Rattle.scheduler_core.specs.Cores.{facts}
-use Rattle.turn_cell.specs.Rows.{AllBy}
-use Rattle.node_runner.specs.Runs.{IsLeft}
+use Rattle.turn_cell.specs.Lists.{AllBy}
+use Rattle.node_runner.specs.Outcomes.{IsLeft}
 use Rattle.node_runner.proofs.ends.all_left.Given as goal
 
 abbrev pub invariant-loop-at : goal.invariant-loop-at
