@@ -160,7 +160,9 @@ def main():
             print(f'{lines:6} {name}')
         else:
             print(f'{lines:6} {unused:5} {name}' + (f': {" ".join(left)}' if left else ''))
-    print(f'{sum(row[1] for row in rows):6} lines of {len(rows)} files and types')
+    imports = sum(line.startswith(('use ', 'pub use ')) for file in reader.files.values() for line in file.lines)
+    lines = sum(row[1] for row in rows)
+    print(f'{lines:6} lines of {len(rows)} files and types: {imports} of imports, {lines - imports} of definitions')
     if '--unused' in sys.argv[1:]:
         print(f'{sum(row[2] for row in rows):6} lines of definitions that nothing of the contract uses')
 

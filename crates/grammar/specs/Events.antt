@@ -1,8 +1,6 @@
 -- What a reading of a text does, in order, and how a text begins.
 use Rattle.std.specs.Prelude.{◌≡◌, ℕ, List, [], ◌∷◌, Option, Some, None}
 
--- ---- what is derived
-
 -- what happens while a text is read: a token is taken, or an action is done
 pub data Event : Type 0 where
   took : ℕ → Event

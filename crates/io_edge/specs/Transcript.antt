@@ -15,7 +15,7 @@ piece_of names numbers bytes = piece_at names (slice_index numbers 0) (slice_ind
 abbrev pub with_read : List Piece → List (List ℕ) → ℕ → ℕ → ℕ → List ℕ → List Piece
 with_read pieces names place size offset bytes = pieces ++ piece_at names place size offset bytes ∷ []
 
--- the same of the file with this place among the names
+-- a fact about what the file with this place among the names holds, where it gave these pieces of it
 abbrev pub OnFile : List (List ℕ) → ℕ → List Piece → (List ℕ → Type 0) → Type 0
 OnFile names place pieces P = OnGiven pieces (λ holds. P (holds (slice_index_or names place [])))
 
@@ -24,7 +24,7 @@ pub record GivesMore (old new : List Piece) : Type 0 where
   pub more : List Piece
   pub is : new ≡ old ++ more
 
--- the same of the file with this place among the names
+-- further pieces were given, and this is true of what the file with this place among the names holds
 abbrev pub GivesOf : List (List ℕ) → ℕ → List Piece → List Piece → (List ℕ → Type 0) → Type 0
 GivesOf names place old new P = Gives old new (λ holds. P (holds (slice_index_or names place [])))
 

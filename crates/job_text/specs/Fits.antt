@@ -3,7 +3,7 @@ use Rattle.std.specs.Prelude.{◌≡◌, ◌≢◌, ℕ, suc, ◌<◌, cond, Lis
 use Rattle.array_expr.specs.declared.expr.Node.{Node}
 use Rattle.array_expr.specs.Elem.{is_input}
 use Rattle.job_text.specs.Names.{IsFileName}
-use Rattle.job_text.specs.Jobs.{Parts, node}
+use Rattle.job_text.specs.Jobs.{Parts}
 
 -- the numbers of the inputs among these nodes, the first of which has the number k
 abbrev pub input_nodes : ℕ → List Node → List ℕ

@@ -1,4 +1,4 @@
--- How a run by threads ended.
+-- What a run by threads goes by, the histories of its nodes, and what its client got.
 use Rattle.std.specs.Prelude.{◌≡◌, ℕ, ◌+◌, ◌⊎◌, Bool, List, [], ◌∷◌, ◌++◌, Option, Some, None, All}
 use Rattle.cluster_msgs.specs.Shape.{Shape}
 use Rattle.cluster_msgs.specs.Labels.{LabelFacts}

@@ -1,4 +1,4 @@
--- Files that are being saved: what they hold so far, and what is left of them at a site.
+-- Files that are being saved, and what they hold so far.
 use Rattle.std.specs.Prelude.{◌≡◌, ◌≢◌, ◌<◌, ℕ, List, [], ◌∷◌, ◌++◌, length, slice_index_or, bytes_eq, false, IsSome, IsTrue, Bool}
 use Rattle.std.specs.declared.sync.Arc.{Arc}
 use Rattle.std.specs.declared.alloc.Global.{Global}
