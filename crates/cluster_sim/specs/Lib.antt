@@ -1,4 +1,5 @@
 pub mod Drawn
+pub mod Endings
 pub mod Kills
 pub mod Plans
 pub mod Standing

@@ -25,7 +25,8 @@ use Rattle.sim_run.specs.declared.ends.SimEnded.TheVariants as SimEnds
 use Rattle.sim_run.specs.Ends.{WhereTold}
 use Rattle.sim_run.specs.Running.{SavesPlan, SimulatesPlan}
 use Rattle.sim_run.specs.Jobs.{IsTextJob}
-use Rattle.sim_run.specs.Simulated.{AreSettings, LeavesSomebody, IsOutOfEvents, IsServed, SimulatesTo}
+use Rattle.sim_run.specs.Simulated.{IsOutOfEvents, IsServed, SimulatesTo}
+use Rattle.sim_run.specs.Leaving.{AreSettings, LeavesSomebody}
 use Rattle.gen_run.specs.Alone.{IsUnscripted, SimulatesAlone, no_files}
 use Rattle.gen_run.specs.Ends.{AreLines, Cause, end_of}
 use Rattle.gen_run.specs.Lines.{first_file, lines_of}

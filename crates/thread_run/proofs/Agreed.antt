@@ -45,7 +45,8 @@ use Rattle.node_states.specs.Released.{WasReleased, is_released, lets_go}
 use Rattle.node_runner.specs.Runs.{AreWhole, ClientSteps, IsGot, IsHistory, SchedSteps, WorkerSteps}
 use Rattle.node_runner.specs.declared.ends.Histories.{Histories}
 use Rattle.node_runner.specs.declared.plan.RunPlan.{RunPlan}
-use Rattle.thread_run.specs.Reports.{IsLegalRun, IsServedRun, IsToldOf, IsToldOfRun, IsVerdictOf, IsVerdictOn, audited, entries_of}
+use Rattle.thread_run.specs.Reports.{IsLegalRun, IsServedRun, IsToldOfRun, IsVerdictOn, audited, entries_of}
+use Rattle.thread_run.specs.Verdicts.{IsToldOf, IsVerdictOf}
 use Rattle.thread_run.specs.declared.verdict.Told.{Told}
 use Rattle.thread_run.specs.declared.verdict.Verdict.{Verdict}
 use Rattle.thread_run.specs.declared.verdict.Verdict.TheVariants.{Agrees, Differs, NotComplete}

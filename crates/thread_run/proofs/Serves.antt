@@ -42,7 +42,8 @@ use Rattle.thread_run.specs.Serving.{IsUnsaved, IsWhy, ServesAll, ServesFiles, S
 use Rattle.thread_run.proofs.Agreed.{told_run}
 use Rattle.thread_run.proofs.Planning.{removes-same}
 use Rattle.thread_run.proofs.SaverEnds.{open-left}
-use Rattle.thread_run.specs.Reports.{IsOutgrown, IsServedRun, IsToldOf, IsToldOfRun, label}
+use Rattle.thread_run.specs.Reports.{IsOutgrown, IsServedRun, IsToldOfRun, label}
+use Rattle.thread_run.specs.Verdicts.{IsToldOf}
 use Rattle.thread_run.specs.declared.verdict.Told.{Told}
 
 -- ## Results

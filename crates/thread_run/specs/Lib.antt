@@ -9,4 +9,5 @@ pub mod Running
 pub mod Saver
 pub mod Serving
 pub mod Told
+pub mod Verdicts
 pub mod Writes

@@ -43,21 +43,6 @@ entries_of h = h.scheduler.entries ∷ (map (λ (x : History). x.entries) h.work
 abbrev pub audited : Shape → ℕ → Option ℕ → Job
 audited graph saturation allowed = shape_job (setting_of graph 1 saturation allowed)
 
--- what is said of the entries of whole histories by their stamps: that they are a legal list of events with the messages that they took, or the stamp
--- of the first that isn't; of others that they aren't whole
-abbrev pub IsVerdictOf : Job → Histories → List Entry → Verdict → Type 0
-IsVerdictOf j h journal Agrees = AreWhole h × IsLegalJournal j journal
-IsVerdictOf j h journal (Differs stamp) = AreWhole h × DiffersAt j journal stamp
-IsVerdictOf j h journal NotComplete = AreWhole h → ⊥
-
--- what is told of histories, over a graph, with this saturation and these losses: of their entries by their stamps, the report, if one is told, and the
--- verdict
-pub record IsToldOf (graph : Shape) (saturation : ℕ) (allowed : Option ℕ) (h : Histories) (t : Told) : Type 0 where
-  pub journal : List Entry
-  pub merged : IsMerge (entries_of h) journal
-  pub report : IfSome t.report (λ r. r ≡ report graph (map taken_of journal))
-  pub verdict : IsVerdictOf (audited graph saturation allowed) h journal t.verdict
-
 -- the plan of a run by these words
 pub record IsPlanOf (w : RunWords) (plan : RunPlan) : Type 0 where
   pub workers : plan.workers ≡ w.settings.workers
