@@ -5,10 +5,11 @@ use Rattle.std.proofs.lemmas.Bool.{cases_eq}
 use Rattle.io_edge.specs.Content.{Content}
 use Rattle.nd_shape.specs.Block.{Array}
 use Rattle.npy_codec.specs.declared.head.Head.{Head}
-use Rattle.npy_codec.specs.Regions.{IsWidth}
+use Rattle.npy_codec.specs.Needed.{IsWidth}
 use Rattle.array_expr.specs.declared.expr.Node.{Node}
 use Rattle.array_expr.specs.Elem.{is_input}
-use Rattle.plain_eval.specs.Eval.{HaveBlocks, block_at, inputs_before}
+use Rattle.plain_eval.specs.Eval.{HaveBlocks, inputs_before}
+use Rattle.plain_eval.specs.Held.{block_at}
 use Rattle.plain_block.specs.Files.{HaveFiles, head_at}
 
 -- each input among the first so many nodes, by its number

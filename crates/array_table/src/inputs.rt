@@ -2,7 +2,8 @@
 ghost use Rattle.std.specs.Prelude.{◌≡◌, ◌<◌, ◌≤◌, ◌^◌, IsTrue, List, length, true};
 ghost use Rattle.io_edge.specs.Content.{Content};
 ghost use Rattle.array_expr.specs.Elem.{is_input, next_input};
-ghost use Rattle.plain_eval.specs.Eval.{HaveBlocks, block_at};
+ghost use Rattle.plain_eval.specs.Eval.{HaveBlocks};
+ghost use Rattle.plain_eval.specs.Held.{block_at};
 ghost use Rattle.plain_block.specs.Files.{HaveFiles, head_at};
 
 use array_expr::{Node, Op};

@@ -10,7 +10,8 @@ use Rattle.nd_shape.specs.Shape.{elements}
 use Rattle.nd_shape.proofs.Places.{place-index_at, index_at-in}
 use Rattle.nd_grid.proofs.Turning.{moved-in}
 use Rattle.io_edge.specs.Content.{Content, Told, Untold, OnTold, told_bytes, file_at}
-use Rattle.io_edge.specs.Given.{Agree, GivesMore, IsFrom, Piece}
+use Rattle.io_edge.specs.Given.{Agree, IsFrom, Piece}
+use Rattle.io_edge.specs.Transcript.{GivesMore}
 use Rattle.io_edge.proofs.GivenLaws.{all_front}
 use Rattle.npy_codec.specs.declared.head.Head.{Head}
 use Rattle.npy_codec.specs.Regions.{element, HoldsRegion}

@@ -12,7 +12,8 @@ use Rattle.npy_codec.specs.declared.error.NpyError.{NpyError}
 use Rattle.npy_codec.specs.declared.error.NpyError.TheVariants.{NotNpy, Version, HeaderLimit, Truncated, HeaderText, Descr, ShapeLimit, ReadFault, OutOfMemory}
 use Rattle.npy_codec.specs.Files.{data_bytes}
 use Rattle.npy_codec.specs.Fronts.{IsFaultOrMemory}
-use Rattle.npy_codec.specs.Regions.{needed, bytes_up_to, data_place, RegionRefusedAs}
+use Rattle.npy_codec.specs.Regions.{data_place}
+use Rattle.npy_codec.specs.Needed.{needed, bytes_up_to, RegionRefusedAs}
 
 last-in : (ss ls ds : List ℕ) → IsPart (record { start = ss; lengths = ls }) ds → 0 < elements ls → IsIn ds (last_index ss ls)
 last-in [] ls [] part some = tt

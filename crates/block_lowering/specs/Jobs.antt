@@ -6,7 +6,8 @@ use Rattle.nd_shape.specs.Region.{IsPart}
 use Rattle.io_edge.specs.Content.{Content, Told, OnTold, file_at, size_of, told_bytes}
 use Rattle.npy_codec.specs.declared.head.Head.{Head}
 use Rattle.npy_codec.specs.Files.{data_bytes}
-use Rattle.npy_codec.specs.Regions.{IsWidth, element, no_head}
+use Rattle.npy_codec.specs.Regions.{element}
+use Rattle.npy_codec.specs.Needed.{IsWidth, no_head}
 use Rattle.cluster_msgs.specs.Shape.{Shape}
 use Rattle.block_kernels.specs.declared.spec.Spec.{Spec}
 use Rattle.block_kernels.specs.declared.spec.Spec.TheVariants.{Load}

@@ -8,8 +8,9 @@ ghost use Rattle.task_graph.specs.Graphs.{task_at};
 ghost use Rattle.task_graph.specs.declared.graph.Task.{Task as AnyTask};
 ghost use Rattle.lowering_laws.specs.Each.{OfEachJob};
 ghost use Rattle.block_lowering.specs.Jobs.{head_at, IsJob, IsLoad, HaveData, HaveNamed, OfTold, LawOfJobs, graph_of, dims_of};
-ghost use Rattle.io_edge.specs.Given.{Agree, GivesMore};
-ghost use Rattle.npy_codec.specs.Regions.{IsWidth};
+ghost use Rattle.io_edge.specs.Given.{Agree};
+ghost use Rattle.io_edge.specs.Transcript.{GivesMore};
+ghost use Rattle.npy_codec.specs.Needed.{IsWidth};
 
 use crate::reading::{load, shape_of_result};
 use block_kernels::{Spec, run as run_kernel};

@@ -1,11 +1,12 @@
 //! What tasks read of inputs, and what they make.
 ghost use Rattle.std.specs.Prelude.{◌≡◌, ◌≤◌, ◌<◌, ◌+◌, ◌^◌, ◌++◌, [], length, map, get_or, slice_index_or, IfOk, OnOk};
 ghost use Rattle.io_edge.specs.Content.{file_at, size_of, OnTold};
-ghost use Rattle.io_edge.specs.Given.{GivesMore, GivesOf};
+ghost use Rattle.io_edge.specs.Transcript.{GivesMore, GivesOf};
 ghost use Rattle.nd_shape.specs.Region.{IsPart};
 ghost use Rattle.npy_codec.specs.Files.{data_bytes};
 ghost use Rattle.npy_codec.specs.Fronts.{IsFaultOrMemory};
-ghost use Rattle.npy_codec.specs.Regions.{HoldsRegion, IsWidth};
+ghost use Rattle.npy_codec.specs.Regions.{HoldsRegion};
+ghost use Rattle.npy_codec.specs.Needed.{IsWidth};
 ghost use Rattle.block_kernels.specs.Kernels.{result_shape};
 ghost use Rattle.nd_grid.specs.Grid.{kept_shape};
 ghost use Rattle.block_lowering.specs.Reading.{FailsAsFeed, fail_of};

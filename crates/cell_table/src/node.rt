@@ -1,6 +1,7 @@
 //! Nodes that only count.
 ghost use Rattle.std.specs.Prelude.{◌≡◌, [], IfSome, false};
-ghost use Rattle.node_links.specs.Books.{IsRecorded, Steps};
+ghost use Rattle.node_links.specs.Books.{Steps};
+ghost use Rattle.node_links.specs.Entering.{IsRecorded};
 
 use cluster_msgs::{Event, KeyList, Named, Stop};
 use node_links::{Book, Log, Machine};

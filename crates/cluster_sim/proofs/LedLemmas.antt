@@ -7,7 +7,7 @@ use Rattle.cluster_rules.specs.World.{Job, IsJob, World as Cluster, unfinished, 
 use Rattle.cluster_rules.specs.Draw.{Plan, Sim, opening_events}
 use Rattle.cluster_world.specs.Safe.{LosesFew}
 use Rattle.safety_laws.proofs.Responsive.{IsResponsive, responsive_after, responsive_any, is_lively}
-use Rattle.cluster_sim.specs.Simulations.{IsStuck}
+use Rattle.cluster_sim.specs.Endings.{IsStuck}
 use Rattle.cluster_sim.specs.Led.{any_job, Made, after_next, next_of, Comes, LedTo, at_first, IsLed, IsLeftAlone}
 use Rattle.cluster_sim.proofs.CourseLemmas.{moved_world}
 use Rattle.cluster_sim.proofs.QuietLemmas.{waits_for}

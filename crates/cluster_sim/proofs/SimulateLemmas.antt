@@ -24,7 +24,7 @@ use Rattle.cluster_sim.specs.Openings.{IsOpen}
 use Rattle.std.specs.Option.{option_map}
 use Rattle.safety_laws.specs.Released.{NoneReleases}
 use Rattle.cluster_world.specs.Safe.{LosesFew}
-use Rattle.cluster_sim.specs.Simulations.{HasAll}
+use Rattle.cluster_sim.specs.Endings.{HasAll}
 use Rattle.cluster_sim.specs.Faults.{fault_at, IfBlamed}
 use Rattle.cluster_sim.proofs.FaultLemmas.{fault_is}
 use Rattle.cluster_sim.specs.declared.position.Standing.{Standing}

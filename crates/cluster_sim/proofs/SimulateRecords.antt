@@ -21,7 +21,8 @@ use Rattle.cluster_sim.specs.Passing.{first_standing}
 use Rattle.cluster_sim.specs.Openings.{IsOpening, AreWanted, HasOpened}
 use Rattle.cluster_sim.specs.Led.{one_left, IsLed, IsLeftAlone}
 use Rattle.cluster_sim.specs.Turns.{IsBetween, IsDrawn, HasServed, HasPlayed, HasHalted}
-use Rattle.cluster_sim.specs.Simulations.{IsSimulated, IsReported, IsCut, IsStuck, IsDeserted, GoesOn, IsUnfinished}
+use Rattle.cluster_sim.specs.Simulations.{IsSimulated, IsReported, GoesOn, IsUnfinished}
+use Rattle.cluster_sim.specs.Endings.{IsCut, IsStuck, IsDeserted}
 use Rattle.std.specs.Option.{option_map}
 use Rattle.cluster_world.specs.Safe.{LosesFew}
 use Rattle.cluster_sim.specs.Faults.{fault_at, IfBlamed}

@@ -18,7 +18,7 @@ use Rattle.cluster_sim.specs.Plans.{IsPlan}
 use Rattle.cluster_sim.specs.Seen.{IsSeen, tells_failure}
 use Rattle.cluster_sim.specs.Standing.{sim_of, made_by, HasTurn, IsStanding}
 use Rattle.cluster_sim.specs.Passing.{IsKindOf, after, IsLeft}
-use Rattle.cluster_sim.specs.Simulations.{IsStuck}
+use Rattle.cluster_sim.specs.Endings.{IsStuck}
 use Rattle.cluster_sim.specs.Led.{Made, one_left, after_next, LedTo, at_first, IsLed}
 use Rattle.cluster_sim.specs.Turns.{IsBetween, IsDrawn, HasGone, IsFull}
 use Rattle.cluster_sim.specs.declared.position.Standing.{Standing}

@@ -1,6 +1,5 @@
 -- What the failure of a simulation is blamed on.
-use Rattle.std.specs.Prelude.{◌≡◌, ◌≤◌, ℕ, ◌+◌, true, List, Option, Some, None, cond}
-use Rattle.cluster_msgs.specs.Scripts.{removes_in}
+use Rattle.std.specs.Prelude.{◌≡◌, ℕ, ◌+◌, true, List, Option, Some, None, cond}
 use Rattle.cluster_msgs.specs.Values.{faulty, needed}
 use Rattle.cluster_msgs.specs.declared.events.Event.{Event}
 use Rattle.cluster_msgs.specs.declared.events.Item.{Item}
@@ -9,6 +8,7 @@ use Rattle.cluster_rules.specs.World.{Job, World}
 use Rattle.cluster_rules.specs.Runs.{killed}
 use Rattle.cluster_sim.specs.declared.ended.Fault.{Fault}
 use Rattle.cluster_sim.specs.declared.ended.Fault.TheVariants.{Zero, Killed}
+use Rattle.cluster_sim.specs.Kills.{IsKill}
 
 -- by how often the key lost its worker
 abbrev pub fault_at : World → ℕ → Fault
@@ -30,11 +30,6 @@ pub record IsNeededKilled (j : Job) (es : List Event) (deps : ℕ → List ℕ) 
   pub allowed : ℕ
   pub bounded : j.setting.allowed ≡ Some allowed
   pub losses : n ≡ allowed + 1
-
--- so many losses kill a key: they are one more than is allowed, and the script takes workers away as often
-pub record IsKill (allowed : Option ℕ) (script : List Item) (n : ℕ) : Type 0 where
-  pub above : (a : ℕ) × (allowed ≡ Some a) × (n ≡ a + 1)
-  pub often : n ≤ removes_in script
 
 -- a key that was killed lost its worker so often
 abbrev pub IsBounded : Option ℕ → List Item → Fault → Type 0

@@ -6,7 +6,7 @@ use Rattle.cluster_rules.specs.World.{Job, IsJob, World, opening, is_connected}
 use Rattle.cluster_rules.specs.Enabled.{enabled}
 use Rattle.cluster_rules.specs.Runs.{legal, run_from}
 use Rattle.cluster_rules.specs.Draw.{Plan, Sim, Next, opening_events, sim_from, next, event_of, moved}
-use Rattle.cluster_sim.specs.Simulations.{IsStuck}
+use Rattle.cluster_sim.specs.Endings.{IsStuck}
 
 -- a job of this setting, where it is nothing to what is said which operations meet a zero divisor
 abbrev pub any_job : Setting → Job

@@ -1,4 +1,6 @@
 pub mod Drawn
+pub mod Endings
+pub mod Kills
 pub mod Plans
 pub mod Standing
 pub mod Seen

@@ -11,7 +11,8 @@ use Rattle.cluster_sim.specs.Seen.{IsSeen}
 use Rattle.cluster_sim.specs.Standing.{sim_of, IsStanding}
 use Rattle.cluster_sim.specs.Courses.{Course}
 use Rattle.cluster_sim.specs.Led.{IsLed}
-use Rattle.cluster_sim.specs.Simulations.{GoesOn, IsStuck}
+use Rattle.cluster_sim.specs.Simulations.{GoesOn}
+use Rattle.cluster_sim.specs.Endings.{IsStuck}
 use Rattle.cluster_sim.specs.declared.ended.Ending.{Ending}
 use Rattle.cluster_sim.specs.declared.run.Run.{Run}
 use Rattle.cluster_sim.specs.declared.act.SimError.{SimError}

@@ -14,7 +14,8 @@ ghost use Rattle.cluster_sim.specs.Plans.{plan_of, IsPlan};
 ghost use Rattle.cluster_sim.specs.Openings.{IsOpening, AreWanted};
 ghost use Rattle.cluster_sim.specs.Turns.{IsBetween, IsDrawn, AfterPlay, DrawnPlay};
 ghost use Rattle.cluster_sim.specs.Led.{IsLeftAlone};
-ghost use Rattle.cluster_sim.specs.Simulations.{IsSimulated, IsReported, IsDeserted, IsUnfinished, HasAll};
+ghost use Rattle.cluster_sim.specs.Simulations.{IsSimulated, IsReported, IsUnfinished};
+ghost use Rattle.cluster_sim.specs.Endings.{IsDeserted, HasAll};
 ghost use Rattle.cluster_sim.specs.Faults.{key_of, IsBounded, IfBlamed};
 
 use crate::act::SimError;

@@ -2,7 +2,8 @@
 use Rattle.std.proofs.Common.{◌≡◌, ℕ, ◌<◌, ◌+◌, List, [], ◌∷◌, ◌++◌, length, refl, ap, sym, subst, ◌∙◌, arith}
 use Rattle.std.proofs.lemmas.List.{append_assoc, length-append}
 use Rattle.cluster_msgs.specs.declared.events.Item.{Item}
-use Rattle.command_words.specs.Scripts.{IsClear, IsCut, IsItem, IsScript, IsAdded, IsNoItem, IsNoScript, comma}
+use Rattle.command_words.specs.Scripts.{IsClear, IsCut, IsItem, IsScript, comma}
+use Rattle.command_words.specs.Refusals.{IsAdded, IsNoItem, IsNoScript}
 use Rattle.command_words.specs.declared.fail.WordsFail.{WordsFail}
 use Rattle.command_words.specs.declared.fail.WordsFail.TheVariants.{Refused, OutOfMemory}
 use Rattle.command_words.proofs.Cuts.{same_cut, not_cut}

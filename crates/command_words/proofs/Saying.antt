@@ -8,7 +8,8 @@ use Rattle.cluster_rules.specs.Functions.{from_one}
 use Rattle.command_words.specs.Given.{HasBound, HasFlag, HasNumber}
 use Rattle.command_words.specs.Numbers.{IsNumber}
 use Rattle.command_words.specs.Walks.{IsCrew, IsWalk, after_items, crew_of}
-use Rattle.command_words.specs.Words.{AreGenSettings, AreRunSettings, HasGenNumbers, HasNoWalk, HasScript, HasSeed, HasSettings, IsGen, IsNotGiven, IsPlain, IsRun, IsSettings, IsSim, SameRun, SameSim}
+use Rattle.command_words.specs.Words.{HasGenNumbers, HasScript, HasSeed, HasSettings, IsGen, IsPlain, IsRun, IsSettings, IsSim}
+use Rattle.command_words.specs.Refusals.{AreGenSettings, AreRunSettings, HasNoWalk, IsNotGiven, SameRun, SameSim}
 use Rattle.command_words.specs.declared.settings.RunSettings.{RunSettings}
 use Rattle.command_words.specs.declared.run.RunWords.{RunWords}
 use Rattle.command_words.specs.declared.sim.Settings.{Settings}

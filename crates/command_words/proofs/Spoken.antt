@@ -4,7 +4,8 @@ use Rattle.cluster_msgs.specs.declared.events.Item.{Item}
 use Rattle.cluster_msgs.specs.declared.events.Item.TheVariants.{Lose, Suspect, Join}
 use Rattle.job_tokens.specs.Bytes.{decimal}
 use Rattle.command_words.specs.Numbers.{IsNumber}
-use Rattle.command_words.specs.Scripts.{IsClear, IsCut, IsOfWorker, IsItemOf, IsItem, IsNamed, colon, at_sign, worker_most, finishes_most}
+use Rattle.command_words.specs.Scripts.{IsClear, IsCut, IsOfWorker, IsItemOf, IsItem, colon, at_sign, worker_most, finishes_most}
+use Rattle.command_words.specs.Refusals.{IsNamed}
 use Rattle.command_words.proofs.Cuts.{same_cut, not_cut, clear_by}
 
 -- one number at most

@@ -14,7 +14,8 @@ use Rattle.clap.specs.declared.parser.matches.ArgMatches.{ArgMatches}
 use Rattle.clap.proofs.OnLiterals.{clap_on_literals}
 use Rattle.clap.proofs.WalkLemmas.{first_value-rows}
 use Rattle.command_words.specs.Apps.{command_of, gen_app, option, plain_app, run_app, sim_app, with_options}
-use Rattle.command_words.specs.Given.{CameBy, IsRead, IsTaken, IsUnread, text_in, text_of}
+use Rattle.command_words.specs.Given.{IsTaken, text_of}
+use Rattle.command_words.specs.Reading.{CameBy, IsRead, IsUnread, text_in}
 use Rattle.command_words.specs.declared.fail.WordsFail.{WordsFail}
 use Rattle.command_words.specs.declared.fail.WordsFail.TheVariants.{Refused, OutOfMemory}
 

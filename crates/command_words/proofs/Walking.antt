@@ -4,7 +4,8 @@ use Rattle.std.proofs.lemmas.List.{take_more, take-append-drop, take_all, get_or
 use Rattle.std.proofs.lemmas.Bool.{cases_order}
 use Rattle.cluster_msgs.specs.declared.events.Item.{Item}
 use Rattle.cluster_msgs.specs.declared.events.Item.TheVariants.{Lose, Suspect, Join}
-use Rattle.command_words.specs.Walks.{Crew, crew, crew_of, after_item, after_items, joins_in, count_of, TakesOneOf, IsItemAt, IsCrew, IsWalk, IsSmall, IsStep, IsNoStep}
+use Rattle.command_words.specs.Walks.{Crew, crew_of, after_item, after_items, joins_in, count_of, TakesOneOf, IsItemAt, IsCrew, IsWalk}
+use Rattle.command_words.specs.Refusals.{crew, IsSmall, IsStep, IsNoStep}
 use Rattle.command_words.specs.declared.walk.Walk.{Walk}
 
 pub after_more : (c : Crew) (items : List Item) (item : Item) → after_items c (items ++ item ∷ []) ≡ after_item (after_items c items) item

@@ -3,8 +3,6 @@ use Rattle.std.specs.Prelude.{◌≡◌, ◌≢◌, ◌<◌, ◌-◌, ◌^◌, �
 use Rattle.cluster_msgs.specs.declared.events.Item.{Item}
 use Rattle.cluster_msgs.specs.declared.events.Item.TheVariants.{Lose, Suspect, Join}
 use Rattle.command_words.specs.Numbers.{IsNumber}
-use Rattle.command_words.specs.declared.fail.WordsFail.{WordsFail}
-use Rattle.command_words.specs.declared.fail.WordsFail.TheVariants.{Refused, OutOfMemory}
 
 abbrev pub comma : ℕ
 comma = 44
@@ -65,24 +63,3 @@ abbrev pub IsScript : List ℕ → List Item → Type 0
 IsScript text [] = ⊥
 IsScript text (item ∷ []) = IsClear comma text × IsItem text item
 IsScript text (item ∷ other ∷ items) = IsFollowed text item (λ back. IsScript back (other ∷ items))
-
--- an item of this worker, by its name
-abbrev pub IsNamed : List ℕ → ℕ → ℕ → Item → Type 0
-IsNamed name worker count (Lose w at) = (name ≡ codes "lose") × (w ≡ worker) × (at ≡ count)
-IsNamed name worker count (Suspect w at) = (name ≡ codes "suspect") × (w ≡ worker) × (at ≡ count)
-IsNamed name worker count (Join at) = ⊥
-
--- why a text gave no items: it says none, or more than 1,000
-abbrev pub IsNoScript : List ℕ → WordsFail → Type 0
-IsNoScript text Refused = (items : List Item) → IsScript text items → 1000 < length items
-IsNoScript text OutOfMemory = Unit {0}
-
--- one more item, which the text says
-pub record IsAdded (text : List ℕ) (old new : List Item) : Type 0 where
-  pub item : Item
-  pub added : new ≡ old ++ item ∷ []
-  pub says : IsItem text item
-
-abbrev pub IsNoItem : List ℕ → WordsFail → Type 0
-IsNoItem text Refused = (item : Item) → ¬ IsItem text item
-IsNoItem text OutOfMemory = Unit {0}

@@ -3,8 +3,6 @@ use Rattle.std.specs.Prelude.{◌≡◌, ◌<◌, ◌≤◌, ◌+◌, ◌*◌, �
 use Rattle.cluster_msgs.specs.declared.events.Item.{Item}
 use Rattle.cluster_msgs.specs.declared.events.Item.TheVariants.{Lose, Suspect, Join}
 use Rattle.cluster_rules.specs.Functions.{from_one}
-use Rattle.command_words.specs.declared.walk.Workers.{Workers}
-use Rattle.command_words.specs.declared.walk.Walk.{Walk}
 
 -- the workers that are there, and the last number that one got
 pub record Crew : Type 0 where
@@ -63,46 +61,3 @@ pub record IsWalk (workers threads : ℕ) (items : List Item) : Type 0 where
   pub rising : (i j : ℕ) (a b : Item) → i ≤ j → IsItemAt items i a → IsItemAt items j b → count_of a ≤ count_of b
   pub takes : (i : ℕ) (item : Item) → IsItemAt items i item → TakesOneOf (after_items (crew_of workers) (take i items)) item
   pub crews : (i : ℕ) → i ≤ length items → IsCrew threads (after_items (crew_of workers) (take i items))
-
--- ## What the code keeps
-
-abbrev pub crew : Workers → Crew
-crew w = record { there = w.there.items; last = w.last }
-
--- no worker got a greater number than the joins allow
-pub record IsSmall (w : Walk) : Type 0 where
-  pub joins : w.joins ≤ 64
-  pub last : w.workers.last ≤ 64 + w.joins
-
--- the item can be followed, and leads there
-pub record IsStep (threads : ℕ) (old new : Walk) (item : Item) : Type 0 where
-  pub later : old.finishes ≤ count_of item
-  pub takes : TakesOneOf (crew old.workers) item
-  pub fits : IsCrew threads (after_item (crew old.workers) item)
-  pub workers : crew new.workers ≡ after_item (crew old.workers) item
-  pub joins : new.joins ≡ old.joins + joins_in (item ∷ [])
-  pub few : new.joins ≤ 64
-  pub finishes : new.finishes ≡ count_of item
-
--- the item can't be followed
-pub record IsNoStep (threads : ℕ) (old : Walk) (item : Item) : Type 0 where
-  pub fails : old.finishes ≤ count_of item → TakesOneOf (crew old.workers) item → old.joins + joins_in (item ∷ []) ≤ 64 → ¬ IsCrew threads (after_item (crew old.workers) item)
-
--- the item's worker goes or joins
-pub record IsTaken (old new : Walk) (item : Item) : Type 0 where
-  pub takes : TakesOneOf (crew old.workers) item
-  pub workers : crew new.workers ≡ after_item (crew old.workers) item
-  pub joins : new.joins ≡ old.joins + joins_in (item ∷ [])
-  pub few : new.joins ≤ 64
-  pub finishes : new.finishes ≡ old.finishes
-
--- it isn't there, or too many have joined
-pub record IsNotTaken (old : Walk) (item : Item) : Type 0 where
-  pub fails : TakesOneOf (crew old.workers) item → 64 < old.joins + joins_in (item ∷ [])
-
--- one more has joined
-pub record HasJoined (old new : Walk) : Type 0 where
-  pub workers : crew new.workers ≡ joined (crew old.workers)
-  pub joins : new.joins ≡ old.joins + 1
-  pub few : new.joins ≤ 64
-  pub finishes : new.finishes ≡ old.finishes

@@ -4,7 +4,7 @@ ghost use Rattle.clap.specs.Faults.{is_simple_and_free};
 ghost use Rattle.clap.specs.Simple.{app_of, with_rule};
 ghost use Rattle.clap.specs.Walk.{rule_of};
 ghost use Rattle.command_words.specs.Apps.{command_of, flag, gen_app, needed, option, plain_app, run_app, sim_app, with_options};
-ghost use Rattle.command_words.specs.Given.{CameBy, IsRead, IsUnread};
+ghost use Rattle.command_words.specs.Reading.{CameBy, IsRead, IsUnread};
 
 use crate::fail::WordsFail;
 use clap::error::ErrorKind;

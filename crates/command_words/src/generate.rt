@@ -1,7 +1,8 @@
 //! All words of `gen`.
 ghost use Rattle.std.specs.Prelude.{◌≤◌, ◌*◌, IfOk, IfErr, map, string_bytes, MatchBool, MatchOption};
-ghost use Rattle.command_words.specs.Given.{text_in};
-ghost use Rattle.command_words.specs.Words.{HasGenNumbers, IsGen, IsNoGen, SaysGen, SaysNoGen};
+ghost use Rattle.command_words.specs.Reading.{text_in};
+ghost use Rattle.command_words.specs.Words.{HasGenNumbers, IsGen, SaysGen};
+ghost use Rattle.command_words.specs.Refusals.{IsNoGen, SaysNoGen};
 ghost use Rattle.command_words.specs.declared.generate.GenWords.{GenWords as AnyWords};
 
 use crate::apps::gen_matches;

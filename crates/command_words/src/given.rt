@@ -1,6 +1,7 @@
 //! The texts that words give to names.
 ghost use Rattle.std.specs.Prelude.{◌≡◌, ◌<◌, ◌^◌, ◌-◌, ℕ, [], Option, Some, IfOk, IfErr, bytes_eq, false, map, option_map, slice_index_or, string_bytes, MatchOption};
-ghost use Rattle.command_words.specs.Given.{HasBound, HasFlag, HasNumber, IsNoText, text_in};
+ghost use Rattle.command_words.specs.Given.{HasBound, HasFlag, HasNumber};
+ghost use Rattle.command_words.specs.Reading.{IsNoText, text_in};
 ghost use Rattle.command_words.specs.Numbers.{IsNumber};
 
 use crate::fail::WordsFail;

@@ -3,7 +3,8 @@ ghost use Rattle.std.specs.Prelude.{◌≡◌, ℕ, codes, MatchOption};
 ghost use Rattle.cluster_msgs.specs.declared.events.Item.{Item as AnyItem};
 ghost use Rattle.cluster_msgs.specs.declared.events.Item.TheVariants.{Join};
 ghost use Rattle.command_words.specs.Numbers.{IsNumber};
-ghost use Rattle.command_words.specs.Scripts.{IsItem, IsItemOf, IsNamed, worker_most};
+ghost use Rattle.command_words.specs.Scripts.{IsItem, IsItemOf, worker_most};
+ghost use Rattle.command_words.specs.Refusals.{IsNamed};
 
 use crate::numbers::number_in;
 use cluster_msgs::Item;

@@ -1,6 +1,7 @@
 //! All words of `plain`.
 ghost use Rattle.std.specs.Prelude.{IfOk, IfErr, map, string_bytes};
-ghost use Rattle.command_words.specs.Words.{IsNoPlain, IsPlain};
+ghost use Rattle.command_words.specs.Words.{IsPlain};
+ghost use Rattle.command_words.specs.Refusals.{IsNoPlain};
 
 use crate::apps::plain_matches;
 use crate::fail::WordsFail;

@@ -1,7 +1,9 @@
 //! All words of `run`.
 ghost use Rattle.std.specs.Prelude.{◌^◌, ℕ, IfOk, IfErr, Some, codes, map, string_bytes, MatchBool, MatchOption};
-ghost use Rattle.command_words.specs.Given.{HasNumber, text_in};
-ghost use Rattle.command_words.specs.Words.{HasSettings, HasTransport, IsNoRun, IsRun, SaysNoRun, SaysRun};
+ghost use Rattle.command_words.specs.Given.{HasNumber};
+ghost use Rattle.command_words.specs.Reading.{text_in};
+ghost use Rattle.command_words.specs.Words.{HasSettings, HasTransport, IsRun, SaysRun};
+ghost use Rattle.command_words.specs.Refusals.{IsNoRun, SaysNoRun};
 
 use crate::apps::run_matches;
 use crate::fail::WordsFail;

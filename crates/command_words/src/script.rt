@@ -1,6 +1,7 @@
 //! Scripts: items with commas between.
 ghost use Rattle.std.specs.Prelude.{IfOk, IfErr, OnOk};
-ghost use Rattle.command_words.specs.Scripts.{IsScript, IsNoScript, IsAdded, IsNoItem};
+ghost use Rattle.command_words.specs.Scripts.{IsScript};
+ghost use Rattle.command_words.specs.Refusals.{IsNoScript, IsAdded, IsNoItem};
 
 use crate::fail::WordsFail;
 use crate::items::read_item;

@@ -1,7 +1,9 @@
 //! The settings that runs and simulations have, and their script.
 ghost use Rattle.std.specs.Prelude.{◌≤◌, ℕ, IfOk, IfErr, codes, MatchOption};
-ghost use Rattle.command_words.specs.Given.{HasNumber, text_in};
-ghost use Rattle.command_words.specs.Words.{HasNoWalk, HasScript, HasSettings, HasWalk, IsNotGiven};
+ghost use Rattle.command_words.specs.Given.{HasNumber};
+ghost use Rattle.command_words.specs.Reading.{text_in};
+ghost use Rattle.command_words.specs.Words.{HasScript, HasSettings};
+ghost use Rattle.command_words.specs.Refusals.{HasNoWalk, HasWalk, IsNotGiven};
 ghost use Rattle.command_words.specs.declared.settings.RunSettings.{RunSettings as AnySettings};
 
 use crate::fail::WordsFail;

@@ -1,8 +1,9 @@
 //! All words of `sim`.
 ghost use Rattle.std.specs.Prelude.{◌-◌, ◌^◌, ℕ, IfOk, IfErr, codes, map, string_bytes, MatchOption};
-ghost use Rattle.command_words.specs.Given.{text_in};
+ghost use Rattle.command_words.specs.Reading.{text_in};
 ghost use Rattle.command_words.specs.Numbers.{IsNumber};
-ghost use Rattle.command_words.specs.Words.{HasSeed, IsSettings, IsSim, IsWhy, SaysNoSim, SaysSim};
+ghost use Rattle.command_words.specs.Words.{HasSeed, IsSettings, IsSim, SaysSim};
+ghost use Rattle.command_words.specs.Refusals.{IsWhy, SaysNoSim};
 ghost use Rattle.command_words.specs.declared.sim.Settings.{Settings as AnySettings};
 
 use crate::apps::sim_matches;

@@ -1,6 +1,7 @@
 //! The workers that a script leaves, item by item.
 ghost use Rattle.std.specs.Prelude.{◌≡◌, ◌<◌, ◌≤◌, ◌-◌, ◌^◌, IfOk, OnOk, MatchBool, Contains};
-ghost use Rattle.command_words.specs.Walks.{IsWalk, IsCrew, IsSmall, IsStep, IsNoStep, IsTaken, IsNotTaken, HasJoined, count_of, crew, crew_of, joined, without};
+ghost use Rattle.command_words.specs.Walks.{IsWalk, IsCrew, count_of, crew_of, joined, without};
+ghost use Rattle.command_words.specs.Refusals.{IsSmall, IsStep, IsNoStep, IsTaken, IsNotTaken, HasJoined, crew};
 
 use cluster_msgs::{Item, Script};
 use std::alloc::{AllocError, Global};

@@ -4,7 +4,7 @@ use Rattle.std.specs.Prelude.{◌⊎◌, IfSome, IsSomeAnd}
 use Rattle.io_edge.specs.View.{View, Files}
 use Rattle.nd_shape.specs.Block.{Array}
 use Rattle.npy_codec.specs.declared.head.Head.{Head}
-use Rattle.plain_eval.specs.Eval.{held_in}
+use Rattle.plain_eval.specs.Held.{held_in}
 use Rattle.task_graph.specs.declared.limit.Quantity.{Quantity}
 use Rattle.lowering_laws.specs.Lowered.{limit_of}
 use Rattle.job_run.specs.declared.ends.Ended.{Ended}
@@ -27,7 +27,7 @@ use Rattle.cluster_laws.specs.Blocks.{job_of, setting_of}
 use Rattle.cluster_sim.specs.Drawn.{word_of}
 use Rattle.cluster_sim.specs.Simulations.{IsUnfinished}
 use Rattle.task_graph.specs.Graphs.{operation, shape_of}
-use Rattle.command_words.specs.Words.{SameRun, SameSim}
+use Rattle.command_words.specs.Refusals.{SameRun, SameSim}
 use Rattle.command_words.specs.declared.generate.GenWords.{GenWords}
 use Rattle.command_words.specs.declared.run.RunWords.{RunWords}
 use Rattle.command_words.specs.declared.settings.RunSettings.{RunSettings}
@@ -37,7 +37,7 @@ use Rattle.sim_run.specs.Jobs.{IsTextJob}
 use Rattle.sim_run.specs.declared.ends.SimEnded.{SimEnded}
 use Rattle.sim_run.specs.declared.ends.SimEnded.TheVariants as SimEnds
 use Rattle.sim_run.specs.Ends.{Cause as SimCause, WhereTold}
-use Rattle.cluster_sim.specs.Faults.{IsKill}
+use Rattle.cluster_sim.specs.Kills.{IsKill}
 use Rattle.thread_run.specs.Losses.{IsKill as ThreadKill, losses_by}
 use Rattle.thread_run.specs.Ends.{Cause as ThreadCause, HasFault as ThreadFault, HasValues as ThreadValues, IsOutgrownRun}
 use Rattle.thread_run.specs.Reports.{IsOutgrown, label}

@@ -2,15 +2,17 @@
 use Rattle.std.proofs.Common.{◌≡◌, ℕ, ◌≤◌, List, ◌++◌, ap, sym, ◌∙◌, subst, inl, inr, arith, Option, Some, Ok}
 use Rattle.std.specs.Prelude.{IsSomeAnd, map}
 use Rattle.io_edge.specs.Cause.{Rose}
-use Rattle.io_edge.specs.Content.{followed_by, PrintsPart}
+use Rattle.io_edge.specs.Printing.{followed_by, PrintsPart}
 use Rattle.io_edge.proofs.GivenLaws.{given_before, given_later, more_same, more_then}
-use Rattle.io_edge.specs.View.{View, Files, Opens, OnlyReads, OnlyErr, raised_by}
+use Rattle.io_edge.specs.View.{View, Files, OnlyErr, raised_by}
+use Rattle.io_edge.specs.Calls.{Opens, OnlyReads}
 use Rattle.job_run.specs.declared.ends.Ended.{Ended}
 use Rattle.job_run.specs.declared.ends.Ended.TheVariants as RunEnds
 use Rattle.job_run.specs.Inputs.{FirstRefusal, InputsFit}
 use Rattle.job_run.specs.Part.{RaisedAtMost}
 use Rattle.job_run.specs.Plan.{Plan, names_saved}
-use Rattle.job_run.specs.Runs.{AreRight, AreSaved, Cause as RunCause, Saves as RunSaves, Opened as RunOpened, Created as RunCreated, Prints as RunPrints, HasValues, Looked, PrintsFront, RunsPlan, StopsPrinting, WritesFail, lines_of}
+use Rattle.job_run.specs.Runs.{AreRight, AreSaved, Cause as RunCause, Saves as RunSaves, Opened as RunOpened, Created as RunCreated, Prints as RunPrints, HasValues, Looked, PrintsFront, StopsPrinting, WritesFail, lines_of}
+use Rattle.job_run.specs.Evaluation.{RunsPlan}
 use Rattle.job_run.proofs.Counting.{none_raised, raised_at_most}
 use Rattle.dask_top.specs.declared.answer.End.{End}
 use Rattle.dask_top.specs.Answers.{Performs}

@@ -1,8 +1,9 @@
 -- The job that a number makes: what came of its simulation, and what was printed of that.
 use Rattle.std.proofs.Common.{◌≡◌, ℕ, List, ap, sym, ◌∙◌, subst, Option, None}
 use Rattle.io_edge.specs.Cause.{Rose}
-use Rattle.io_edge.specs.Content.{PrintsPart, followed_by}
-use Rattle.io_edge.specs.View.{OnlyErr, OnlyOut, View}
+use Rattle.io_edge.specs.Printing.{PrintsPart, followed_by}
+use Rattle.io_edge.specs.View.{OnlyErr, View}
+use Rattle.io_edge.specs.Calls.{OnlyOut}
 use Rattle.job_run.specs.Plan.{Plan}
 use Rattle.command_words.specs.declared.generate.GenWords.{GenWords}
 use Rattle.gen_run.specs.declared.ends.GenEnded.{GenEnded}

@@ -10,7 +10,7 @@ use Rattle.command_words.specs.declared.run.RunWords.{RunWords}
 use Rattle.command_words.specs.declared.sim.SimWords.{SimWords}
 use Rattle.command_words.specs.Words.{IsGen, IsPlain, IsRun, IsSim}
 use Rattle.command_words.proofs.Saying.{in_range}
-use Rattle.sim_run.specs.Simulated.{AreSettings}
+use Rattle.sim_run.specs.Leaving.{AreSettings}
 use Rattle.dask_top.specs.declared.answer.End.{End}
 use Rattle.dask_top.specs.declared.answer.End.TheVariants.{Words, OutOfMemory}
 use Rattle.dask_top.specs.Answers.{Obeys, OnlyTells, Performs}

@@ -1,6 +1,7 @@
 -- Counts of names, where the sources were opened first.
 use Rattle.std.proofs.Common.{◌≡◌, ℕ, ◌+◌, List, ◌++◌, ap, sym, ◌∙◌, arith}
-use Rattle.io_edge.specs.View.{Files, Opens, raised, raised_by, times}
+use Rattle.io_edge.specs.View.{Files, raised, raised_by, times}
+use Rattle.io_edge.specs.Calls.{Opens}
 use Rattle.job_run.specs.Part.{RaisedAtMost}
 use Rattle.job_run.proofs.Counting.{raised_at_most, times-append}
 use Rattle.io_edge.proofs.OpeningLaws.{raised_again}

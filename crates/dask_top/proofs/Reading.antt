@@ -2,7 +2,8 @@
 use Rattle.std.proofs.Common.{◌≡◌, ℕ, List, [], ◌∷◌, length, get_or, map, take, refl, sym, subst, arith, Option, Some, None, Result, Ok, Err}
 use Rattle.std.specs.Prelude.{IfSome, IsSome, IsTrue, option_and_then}
 use Rattle.std.specs.Option.{option_map}
-use Rattle.io_edge.specs.Given.{Gives, GivesMore}
+use Rattle.io_edge.specs.Given.{Gives}
+use Rattle.io_edge.specs.Transcript.{GivesMore}
 use Rattle.io_edge.proofs.GivenLaws.{given_as, given_later}
 use Rattle.io_edge.specs.View.{View, Files}
 use Rattle.job_run.specs.Plan.{Plan}

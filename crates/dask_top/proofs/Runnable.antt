@@ -11,7 +11,8 @@ use Rattle.job_run.specs.Jobs.{plan_of, saved_of}
 use Rattle.job_run.specs.Plan.{IsRunnable, Saved, input_shapes, name_at, names_saved}
 use Rattle.job_script.specs.Names.{Called}
 use Rattle.job_text.specs.declared.job.Parsed.{Parsed}
-use Rattle.job_text.specs.Jobs.{FilesFit, IsJob, Parts, input_nodes}
+use Rattle.job_text.specs.Jobs.{IsJob, Parts}
+use Rattle.job_text.specs.Fits.{FilesFit, input_nodes}
 use Rattle.job_text.specs.JobParts.{parts_of, save_called}
 use Rattle.job_text.proofs.JobParts.{called-names}
 use Rattle.dask_top.specs.Reading.{SaysPlan, plan_said}

@@ -1,9 +1,10 @@
 -- A run of a job by a cluster of threads, whose text was read before it and whose end was told after it.
 use Rattle.std.proofs.Common.{◌≡◌, ℕ, ◌≤◌, List, ◌++◌, refl, ap, sym, ◌∙◌, subst, inl, inr, arith, Option, None, Some, Ok}
 use Rattle.std.specs.Prelude.{IsSomeAnd, IsTrue, map}
-use Rattle.io_edge.specs.Content.{followed_by}
+use Rattle.io_edge.specs.Printing.{followed_by}
 use Rattle.io_edge.proofs.GivenLaws.{given_before, given_later, more_same, more_then}
-use Rattle.io_edge.specs.View.{View, Files, Opens, OnlyReads, OnlyErr, raised_by, times}
+use Rattle.io_edge.specs.View.{View, Files, OnlyErr, raised_by, times}
+use Rattle.io_edge.specs.Calls.{Opens, OnlyReads}
 use Rattle.command_words.specs.declared.run.RunWords.{RunWords}
 use Rattle.job_run.specs.declared.ends.Ended.{Ended}
 use Rattle.job_run.specs.declared.ends.Ended.TheVariants as RunEnds
@@ -13,7 +14,8 @@ use Rattle.job_run.specs.Plan.{Plan, names_saved}
 use Rattle.job_run.specs.Runs.{AreRight, Created, StopsPrinting}
 use Rattle.job_run.proofs.Counting.{times-append}
 use Rattle.thread_run.specs.Counts.{RaisedBetween, feeds, numbers, repeated}
-use Rattle.thread_run.specs.Ends.{Cause, HasValues, Saves, Opened, Looked, Prints, PrintsRun, IsOutgrownRun, LeavesAs, RunsByThreads, WritesFail, left_as, lines_of, openings}
+use Rattle.thread_run.specs.Ends.{Cause, HasValues, Saves, Opened, Looked, Prints, PrintsRun, IsOutgrownRun, WritesFail, left_as, lines_of, openings}
+use Rattle.thread_run.specs.Running.{LeavesAs, RunsByThreads}
 use Rattle.thread_run.specs.Losses.{losses_by}
 use Rattle.thread_run.specs.Reports.{IsToldRun}
 use Rattle.thread_run.specs.declared.ends.ThreadEnded.{ThreadEnded}

@@ -1,9 +1,10 @@
 -- A simulation of a cluster on a job, whose text was read before it and whose end was told after it.
 use Rattle.std.proofs.Common.{◌≡◌, ℕ, ◌≤◌, List, ◌++◌, refl, ap, sym, ◌∙◌, subst, inl, inr, Some, Ok}
 use Rattle.std.specs.Prelude.{IsSomeAnd, map}
-use Rattle.io_edge.specs.Content.{followed_by}
+use Rattle.io_edge.specs.Printing.{followed_by}
 use Rattle.io_edge.proofs.GivenLaws.{given_later, more_same, more_then}
-use Rattle.io_edge.specs.View.{View, Files, Opens, OnlyReads, OnlyErr, raised_by}
+use Rattle.io_edge.specs.View.{View, Files, OnlyErr, raised_by}
+use Rattle.io_edge.specs.Calls.{Opens, OnlyReads}
 use Rattle.job_run.specs.declared.ends.Ended.{Ended}
 use Rattle.job_run.specs.declared.ends.Ended.TheVariants as RunEnds
 use Rattle.job_run.specs.Inputs.{FirstRefusal}
@@ -13,7 +14,8 @@ use Rattle.job_run.proofs.Counting.{none_raised}
 use Rattle.command_words.specs.declared.sim.SimWords.{SimWords}
 use Rattle.sim_run.specs.declared.ends.SimEnded.{SimEnded}
 use Rattle.sim_run.specs.declared.ends.SimEnded.TheVariants as SimEnds
-use Rattle.sim_run.specs.Ends.{Cause as SimCause, Saves as SimSaves, RanSaves, Opened as SimOpens, Created as SimCreated, Prints as SimPrints, SimulatesPlan}
+use Rattle.sim_run.specs.Ends.{Cause as SimCause, Saves as SimSaves, RanSaves, Created as SimCreated, Prints as SimPrints}
+use Rattle.sim_run.specs.Running.{Opened as SimOpens, SimulatesPlan}
 use Rattle.sim_run.specs.Simulated.{IsKilled, IsOutOfEvents}
 use Rattle.dask_top.specs.declared.answer.End.{End}
 use Rattle.dask_top.specs.Answers.{Performs}

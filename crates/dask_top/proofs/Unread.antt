@@ -2,7 +2,8 @@
 use Rattle.std.proofs.Common.{◌≡◌, ℕ, List, refl, ap, sym, ◌∙◌, subst, inl, inr, None, Some, Err}
 use Rattle.io_edge.specs.Cause.{Rose}
 use Rattle.io_edge.proofs.GivenLaws.{more_same}
-use Rattle.io_edge.specs.View.{View, Files, Opens, OnlyReads, OnlyErr}
+use Rattle.io_edge.specs.View.{View, Files, OnlyErr}
+use Rattle.io_edge.specs.Calls.{Opens, OnlyReads}
 use Rattle.job_run.specs.Part.{RaisedAtMost}
 use Rattle.job_run.specs.Runs.{AreUntouched}
 use Rattle.job_run.proofs.Counting.{opened_most}

@@ -9,7 +9,7 @@ use Rattle.job_run.specs.Inputs.{FitInputs, HoldArrays, told_all}
 use Rattle.job_run.specs.Plan.{Plan, input_shapes}
 use Rattle.job_run.specs.Runs.{IsSmall}
 use Rattle.job_run.specs.Values.{MeetsNone, NeedsFault}
-use Rattle.plain_eval.specs.Eval.{held_in}
+use Rattle.plain_eval.specs.Held.{held_in}
 use Rattle.sim_run.specs.Jobs.{IsTextJob}
 use Rattle.sim_run.specs.Simulated.{IsOutOfEvents, SimulatesTo}
 use Rattle.command_words.specs.declared.generate.GenWords.{GenWords}

@@ -1,7 +1,7 @@
 -- The ends of a call: their statuses, their lines on standard error, and which of them are ends of a run or of a simulation.
 use Rattle.std.specs.Prelude.{◌≡◌, ◌⊎◌, ℕ, List, [], ◌++◌, codes, decimal, slice_index_or, Option, None, Some}
 use Rattle.io_edge.specs.Cause.{Rose}
-use Rattle.io_edge.specs.Content.{followed_by, PrintsPart}
+use Rattle.io_edge.specs.Printing.{followed_by, PrintsPart}
 use Rattle.io_edge.specs.View.{View}
 use Rattle.job_run.specs.declared.ends.Ended.{Ended}
 use Rattle.job_run.specs.declared.ends.Ended.TheVariants as RunEnds

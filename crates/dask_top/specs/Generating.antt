@@ -1,7 +1,7 @@
 -- What `gen` does at each of its ends: the job that a number makes is simulated over no file, and the lines tell of that.
 use Rattle.std.specs.Prelude.{◌≡◌, ℕ, List, None}
 use Rattle.io_edge.specs.Cause.{Rose}
-use Rattle.io_edge.specs.Content.{followed_by, PrintsPart}
+use Rattle.io_edge.specs.Printing.{followed_by, PrintsPart}
 use Rattle.io_edge.specs.View.{View}
 use Rattle.job_run.specs.Plan.{Plan}
 use Rattle.command_words.specs.declared.generate.GenWords.{GenWords}

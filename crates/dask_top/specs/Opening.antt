@@ -1,7 +1,8 @@
 -- What is known once a job's text was read, for the private functions.
 use Rattle.std.specs.Prelude.{◌≡◌, ◌≤◌, ℕ, List, [], length, take, slice_index_or, IfSome, IsSome, IsTrue}
 use Rattle.io_edge.specs.Given.{Gives}
-use Rattle.io_edge.specs.View.{View, Opens, OnlyReads, raised_by}
+use Rattle.io_edge.specs.View.{View, raised_by}
+use Rattle.io_edge.specs.Calls.{Opens, OnlyReads}
 use Rattle.job_run.specs.Plan.{Plan}
 use Rattle.dask_top.specs.Reading.{SaysPlan}
 

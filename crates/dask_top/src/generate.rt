@@ -1,6 +1,6 @@
 //! The job that a number makes, simulated over no file.
 ghost use Rattle.std.specs.Prelude.{◌≡◌, IfErr, IfOk, string_bytes};
-ghost use Rattle.command_words.specs.Words.{AreGenSettings};
+ghost use Rattle.command_words.specs.Refusals.{AreGenSettings};
 ghost use Rattle.gen_run.specs.Texts.{gen_text};
 ghost use Rattle.gen_run.specs.declared.ends.GenEnded.TheVariants.{OutOfMemory};
 ghost use Rattle.job_run.specs.Jobs.{plan_of};

@@ -1,6 +1,6 @@
 //! NumPy's files: heads, regions, and the runs of bytes that hold a region.
 ghost use Rattle.std.specs.Prelude.{◌≡◌, ◌<◌, ◌≤◌, ◌^◌, length};
-ghost use Rattle.npy_codec.specs.Regions.{IsWidth};
+ghost use Rattle.npy_codec.specs.Needed.{IsWidth};
 
 use crate::answer::Answer;
 use crate::headers::order_name;

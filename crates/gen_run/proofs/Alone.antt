@@ -4,14 +4,14 @@ use Rattle.std.specs.Prelude.{IfSome, IsSome, IsTrue}
 use Rattle.std.proofs.lemmas.Bool.{false≢true}
 use Rattle.std.proofs.lemmas.List.{length-map}
 use Rattle.std.proofs.lemmas.List.FromFn.{length-range_with_len}
-use Rattle.io_edge.specs.Memory.{new_view}
+use Rattle.io_edge.specs.Fresh.{new_view}
 use Rattle.io_edge.specs.View.{View}
 use Rattle.nd_shape.specs.Block.{Array}
 use Rattle.cluster_msgs.specs.declared.events.Item.{Item}
 use Rattle.cluster_msgs.specs.declared.events.Report.{Report}
 use Rattle.cluster_rules.specs.World.{Job}
 use Rattle.command_words.specs.Walks.{joins_in, crew_of, after_items}
-use Rattle.command_words.specs.Words.{AreGenSettings}
+use Rattle.command_words.specs.Refusals.{AreGenSettings}
 use Rattle.command_words.specs.declared.generate.GenWords.{GenWords}
 use Rattle.command_words.specs.declared.sim.Settings.{Settings}
 use Rattle.command_words.specs.declared.sim.SimWords.{SimWords}
@@ -19,12 +19,14 @@ use Rattle.job_run.specs.Inputs.{HoldArrays, InputsFit, told_all}
 use Rattle.job_run.specs.Plan.{IsRunnable, Plan, input_shapes, name_at, names_saved}
 use Rattle.job_run.specs.Part.{AreWhole}
 use Rattle.job_run.specs.Values.{MeetsNone, OnInputs, files_of}
-use Rattle.plain_eval.specs.Eval.{held_in}
+use Rattle.plain_eval.specs.Held.{held_in}
 use Rattle.sim_run.specs.declared.ends.SimEnded.{SimEnded}
 use Rattle.sim_run.specs.declared.ends.SimEnded.TheVariants as SimEnds
-use Rattle.sim_run.specs.Ends.{SavesPlan, SimulatesPlan, WhereTold}
+use Rattle.sim_run.specs.Ends.{WhereTold}
+use Rattle.sim_run.specs.Running.{SavesPlan, SimulatesPlan}
 use Rattle.sim_run.specs.Jobs.{IsTextJob}
-use Rattle.sim_run.specs.Simulated.{AreSettings, LeavesSomebody, IsOutOfEvents, IsServed, SimulatesTo}
+use Rattle.sim_run.specs.Simulated.{IsOutOfEvents, IsServed, SimulatesTo}
+use Rattle.sim_run.specs.Leaving.{AreSettings, LeavesSomebody}
 use Rattle.gen_run.specs.Alone.{IsUnscripted, SimulatesAlone, no_files}
 use Rattle.gen_run.specs.Ends.{AreLines, Cause, end_of}
 use Rattle.gen_run.specs.Lines.{first_file, lines_of}

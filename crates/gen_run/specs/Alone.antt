@@ -1,6 +1,6 @@
 -- A simulation of a job over no file.
 use Rattle.std.specs.Prelude.{◌≡◌, ℕ, List, [], None}
-use Rattle.io_edge.specs.Memory.{new_view}
+use Rattle.io_edge.specs.Fresh.{new_view}
 use Rattle.io_edge.specs.View.{Files}
 use Rattle.cluster_rules.specs.World.{Job}
 use Rattle.command_words.specs.declared.generate.GenWords.{GenWords}

@@ -5,7 +5,7 @@ use Rattle.hex.specs.Hex.{encode_lower}
 use Rattle.nd_shape.specs.Shape.{shape_text}
 use Rattle.cluster_msgs.specs.declared.events.Report.{Report}
 use Rattle.array_expr.specs.Node.{shape_at}
-use Rattle.plain_eval.specs.Eval.{held_in}
+use Rattle.plain_eval.specs.Held.{held_in}
 use Rattle.run_report.specs.Text.{count_line, report_text}
 use Rattle.job_run.specs.Plan.{Plan, name_at, nodes_saved}
 use Rattle.job_run.specs.Values.{Named, files_of}

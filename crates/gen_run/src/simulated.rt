@@ -1,6 +1,6 @@
 //! The simulation of a job over no file.
 ghost use Rattle.std.specs.Prelude.{◌≡◌, ◌<◌, IfErr, IfOk, Some, length, slice_index_or, string_bytes};
-ghost use Rattle.command_words.specs.Words.{AreGenSettings};
+ghost use Rattle.command_words.specs.Refusals.{AreGenSettings};
 ghost use Rattle.io_edge.specs.Memory.{memory_view};
 ghost use Rattle.job_run.specs.Jobs.{plan_of};
 ghost use Rattle.job_run.specs.Plan.{IsRunnable, name_at, names_saved, nodes_saved};

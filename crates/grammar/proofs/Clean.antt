@@ -5,7 +5,8 @@ use Rattle.small_facts.proofs.Options.{same_in_some}
 use Rattle.grammar.specs.declared.symbol.Symbol.{Symbol}
 use Rattle.grammar.specs.declared.symbol.Symbol.TheVariants.{Token, Part, Action}
 use Rattle.grammar.specs.Follow.{Tables, begins, empties, Followed, nothing}
-use Rattle.grammar.specs.Grammars.{Grammar, Event, took, tokens, DerivesIn, cost, effort}
+use Rattle.grammar.specs.Grammars.{Grammar, DerivesIn, cost, effort}
+use Rattle.grammar.specs.Events.{Event, took, tokens}
 
 pub record IsClean (g : Grammar) (t : Tables) : Type 0 where
   pub starts_on : (p k : ℕ) (rule : List Symbol) → g.on p k ≡ Some rule → t.starts p k ≡ true

@@ -2,7 +2,8 @@
 use Rattle.std.proofs.Common.{◌≡◌, ℕ, zero, suc, ◌+◌, List, [], ◌∷◌, ◌++◌, inl, inr, Some, refl, ap, sym, subst, append_assoc}
 use Rattle.grammar.specs.declared.symbol.Symbol.{Symbol}
 use Rattle.grammar.specs.declared.symbol.Symbol.TheVariants.{Token, Part, Action}
-use Rattle.grammar.specs.Grammars.{Grammar, Event, took, did, did_all, tokens, DerivesIn, Derives}
+use Rattle.grammar.specs.Grammars.{Grammar, DerivesIn, Derives}
+use Rattle.grammar.specs.Events.{Event, took, did, did_all, tokens}
 
 pub tokens-append : (es fs : List Event) → tokens (es ++ fs) ≡ tokens es ++ tokens fs
 tokens-append [] fs = refl

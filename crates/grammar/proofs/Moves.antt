@@ -6,7 +6,8 @@ use Rattle.small_facts.proofs.Options.{same_in_some}
 use Rattle.grammar.specs.declared.symbol.Symbol.{Symbol}
 use Rattle.grammar.specs.declared.symbol.Symbol.TheVariants.{Token, Part, Action}
 use Rattle.grammar.specs.Follow.{Tables, Followed, nothing}
-use Rattle.grammar.specs.Grammars.{Grammar, Event, took, did, tokens, Begins, DerivesIn, Derives, takes, does, turns, stops, ends, on_next, turned, taken_if, move, effort}
+use Rattle.grammar.specs.Grammars.{Grammar, DerivesIn, Derives, takes, does, turns, stops, ends, on_next, turned, taken_if, move, effort}
+use Rattle.grammar.specs.Events.{Event, took, did, tokens, Begins}
 use Rattle.grammar.proofs.Clean.{IsClean, IsBounded, decide-on, effort-append}
 
 -- ---- which moves there are

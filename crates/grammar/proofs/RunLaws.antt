@@ -4,7 +4,8 @@ use Rattle.std.specs.Prelude.{Option}
 use Rattle.std.proofs.lemmas.Bool.{lt-ltb}
 use Rattle.grammar.specs.declared.symbol.Symbol.{Symbol}
 use Rattle.grammar.specs.declared.symbol.Symbol.TheVariants.{Token, Part, Action}
-use Rattle.grammar.specs.Grammars.{Grammar, Event, took, did_all, tokens, Derives, taken, refused, step, effort}
+use Rattle.grammar.specs.Grammars.{Grammar, Derives, taken, refused, step, effort}
+use Rattle.grammar.specs.Events.{Event, took, did_all, tokens}
 use Rattle.grammar.specs.Tables.{Rows, grammar_of, moves_end}
 use Rattle.grammar.specs.Tests.{Certificate, named, is_ll1}
 use Rattle.grammar.specs.Follow.{Tables, Followed, nothing, tables_of}

@@ -4,7 +4,8 @@ use Rattle.std.specs.Prelude.{Option}
 use Rattle.grammar.specs.declared.symbol.Symbol.{Symbol}
 use Rattle.grammar.specs.declared.symbol.Symbol.TheVariants.{Token, Part, Action}
 use Rattle.grammar.specs.Follow.{Tables, Followed, nothing}
-use Rattle.grammar.specs.Grammars.{Grammar, Event, took, did, did_all, tokens, Begins, Derives, takes, does, turns, stops, ends, move, effort, Step, taken, refused, doing, after_move, step_in, step}
+use Rattle.grammar.specs.Grammars.{Grammar, Derives, takes, does, turns, stops, ends, move, effort, Step, taken, refused, doing, after_move, step_in, step}
+use Rattle.grammar.specs.Events.{Event, took, did, did_all, tokens, Begins}
 use Rattle.grammar.proofs.Clean.{IsClean, IsBounded, followed-on, followed-other, effort-some}
 use Rattle.grammar.proofs.Moves.{takes-onward, does-onward, turns-onward, ends-only, takes-next, takes-back, does-back, turns-back, stops-back, ends-back, IsKept, kept-takes, kept-turns, kept-does, turns-effort, does-effort}
 

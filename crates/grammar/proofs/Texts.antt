@@ -4,7 +4,8 @@ use Rattle.std.specs.Prelude.{Option, slice_get}
 use Rattle.std.proofs.lemmas.Bool.{and_parts, or_cases, ltb-true}
 use Rattle.grammar.specs.declared.symbol.Symbol.{Symbol}
 use Rattle.grammar.specs.declared.symbol.Symbol.TheVariants.{Token, Part, Action}
-use Rattle.grammar.specs.Grammars.{Grammar, Event, took, did, Derives}
+use Rattle.grammar.specs.Grammars.{Grammar, Derives}
+use Rattle.grammar.specs.Events.{Event, took, did}
 use Rattle.grammar.specs.Tables.{Rows, rule_maybe, entry_rule, on_row, grammar_of}
 use Rattle.grammar.specs.Tests.{Certificate, mask_at, named, ranked, lower_rule, lower_on, is_ll1}
 use Rattle.grammar.specs.Runs.{HasKinds}

@@ -4,36 +4,13 @@
 use Rattle.std.specs.Prelude.{◌≡◌, ℕ, zero, suc, ◌+◌, Bool, true, false, nat_eq, List, [], ◌∷◌, ◌++◌, Option, Some, None, ◌⊎◌}
 use Rattle.grammar.specs.declared.symbol.Symbol.{Symbol}
 use Rattle.grammar.specs.declared.symbol.Symbol.TheVariants.{Token, Part, Action}
+use Rattle.grammar.specs.Events.{Event, took, did}
 
 -- `moves p` is more than the moves that p takes before a token is looked at
 pub record Grammar : Type 0 where
   pub on : ℕ → ℕ → Option (List Symbol)
   pub other : ℕ → Option (List Symbol)
   pub moves : ℕ → ℕ
-
--- ---- what is derived
-
--- what happens while a text is read: a token is taken, or an action is done
-pub data Event : Type 0 where
-  took : ℕ → Event
-  did : ℕ → Event
-
--- the text: the tokens that were taken
-abbrev pub tokens : List Event → List ℕ
-tokens [] = []
-tokens (took t ∷ es) = t ∷ tokens es
-tokens (did a ∷ es) = tokens es
-
-abbrev pub did_all : List ℕ → List Event
-did_all [] = []
-did_all (a ∷ actions) = did a ∷ did_all actions
-
--- a text's first token has this kind, or the text has none
-abbrev pub Begins : (ℕ → ℕ) → List ℕ → Option ℕ → Type 0
-Begins kind [] None = Unit {0}
-Begins kind [] (Some k) = ⊥
-Begins kind (t ∷ w) None = ⊥
-Begins kind (t ∷ w) (Some k) = kind t ≡ k
 
 -- In n steps the symbols derive these events.
 abbrev pub DerivesIn : Grammar → (ℕ → ℕ) → ℕ → List Symbol → List Event → Type 0

@@ -1,7 +1,8 @@
 -- What a run of steps means for what is derived, where the next token decides.
 use Rattle.std.specs.Prelude.{◌≡◌, ℕ, ◌<◌, true, List, [], ◌++◌, Option, None, length}
 use Rattle.grammar.specs.declared.symbol.Symbol.{Symbol}
-use Rattle.grammar.specs.Grammars.{Grammar, Event, did_all, tokens, Begins, Derives}
+use Rattle.grammar.specs.Grammars.{Grammar, Derives}
+use Rattle.grammar.specs.Events.{Event, did_all, tokens, Begins}
 use Rattle.grammar.specs.Tables.{Rows}
 use Rattle.grammar.specs.Tests.{Certificate, named}
 use Rattle.grammar.specs.Follow.{Followed, nothing, tables_of}

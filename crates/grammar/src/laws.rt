@@ -4,7 +4,8 @@
 ghost use Rattle.std.specs.Prelude.{◌≡◌, ℕ, ◌<◌, true, List, [], ◌∷◌, ◌++◌, Option, Some, None, length};
 ghost use Rattle.grammar.specs.declared.symbol.Symbol.{Symbol};
 ghost use Rattle.grammar.specs.declared.symbol.Symbol.TheVariants.{Part};
-ghost use Rattle.grammar.specs.Grammars.{Event, took, did_all, Derives, taken, refused, step};
+ghost use Rattle.grammar.specs.Grammars.{Derives, taken, refused, step};
+ghost use Rattle.grammar.specs.Events.{Event, took, did_all};
 ghost use Rattle.grammar.specs.Tables.{grammar_of, moves_end};
 ghost use Rattle.grammar.specs.Tests.{Certificate, is_ll1};
 ghost use Rattle.grammar.specs.Runs.{IsReady, Leaves, RefusesNext, Ends, HasKinds};

@@ -6,7 +6,8 @@ use Rattle.std.proofs.lemmas.Slice.Eq.{bytes_eq-Decides}
 use Rattle.io_edge.specs.declared.book.Record.{Record}
 use Rattle.io_edge.specs.Real.{real_files}
 use Rattle.io_edge.specs.Book.{Book, record_at, ChangesAt, SameRecords, book_files}
-use Rattle.io_edge.specs.View.{Files, Creates, times, raised, raised_by}
+use Rattle.io_edge.specs.View.{Files, times, raised, raised_by}
+use Rattle.io_edge.specs.Calls.{Creates}
 use Rattle.io_edge.proofs.OpeningLaws.{keeps, counted_once, raised_bounds, raised_some, times_one}
 
 abbrev begun : Record → Record

@@ -6,8 +6,10 @@ use borrow.Rule.Slice.PartMut.{put_mid}
 use Rattle.std.specs.List.{All}
 use Rattle.io_edge.specs.Content.{ReadsAll, Told}
 use Rattle.io_edge.proofs.Pieces.{read_more}
-use Rattle.io_edge.specs.View.{OnlyReads, View}
-use Rattle.io_edge.specs.Given.{Agree, Gives, GivesMore, GivesOf, GivesOnly, IsFrom, OnGiven, Piece, piece_at, with_read}
+use Rattle.io_edge.specs.View.{View}
+use Rattle.io_edge.specs.Calls.{OnlyReads}
+use Rattle.io_edge.specs.Given.{Agree, Gives, IsFrom, OnGiven, Piece}
+use Rattle.io_edge.specs.Transcript.{GivesMore, GivesOf, GivesOnly, piece_at, with_read}
 
 module _ {X : Type 0} (P : X → Type 0) where
   pub all_front : (xs ys : List X) → All P (xs ++ ys) → All P xs

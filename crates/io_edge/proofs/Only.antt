@@ -1,6 +1,7 @@
 -- Calls one after another, of which only some of a site's view changes.
 use Rattle.std.proofs.Common.{◌≡◌, refl, ◌∙◌, ap}
-use Rattle.io_edge.specs.View.{View, OnlyReads, OnlyWrites, OnlyOut, OnlyErr, OnlySpills}
+use Rattle.io_edge.specs.View.{View, OnlyErr}
+use Rattle.io_edge.specs.Calls.{OnlyReads, OnlyWrites, OnlyOut, OnlySpills}
 use Rattle.io_edge.proofs.GivenLaws.{more_same}
 
 pub reads_none : (v : View) → OnlyReads v v

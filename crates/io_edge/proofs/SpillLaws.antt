@@ -6,7 +6,7 @@ use Rattle.std.specs.BTreeMap.{UpdatesBy, get}
 use Rattle.std.specs.Cmp.{unsigned_ties}
 use Rattle.io_edge.specs.declared.spills.Disks.{Disks}
 use Rattle.io_edge.specs.Spills.{SpillBook, book_spills, no_disks}
-use Rattle.io_edge.specs.View.{TakesPuts}
+use Rattle.io_edge.specs.Calls.{TakesPuts}
 
 -- the puts of the worker are no fewer than before, and those of the others the same
 pub takes_written : (worker faults : ℕ) (old new : SpillBook) (d w : Disks)

@@ -1,7 +1,8 @@
 //! What a site keeps of the disks for workers' blocks, by worker.
 ghost use Rattle.std.specs.Prelude.{◌≡◌, ◌<◌, OnOk};
 ghost use Rattle.io_edge.specs.Spills.{book_spills, disks_at, ChangesDisks, KnowsWorker, SameDisks};
-ghost use Rattle.io_edge.specs.View.{raised, TakesPuts};
+ghost use Rattle.io_edge.specs.View.{raised};
+ghost use Rattle.io_edge.specs.Calls.{TakesPuts};
 
 use std::alloc::AllocError;
 use std::collections::BTreeMap;

@@ -1,7 +1,8 @@
 //! What reads gave. Only clauses read it: it takes no bytes, and its methods do nothing when the program runs.
 ghost use Rattle.std.specs.Prelude.{◌≡◌, ◌++◌, ◌∷◌, [], List, ℕ, map, string_bytes};
 ghost use Rattle.std.specs.Borrow.{ftrue};
-ghost use Rattle.io_edge.specs.Given.{Piece, piece_of};
+ghost use Rattle.io_edge.specs.Given.{Piece};
+ghost use Rattle.io_edge.specs.Transcript.{piece_of};
 
 use std::marker::Model;
 

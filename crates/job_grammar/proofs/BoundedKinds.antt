@@ -2,7 +2,7 @@
 use Rattle.std.proofs.Common.{◌≡◌, ℕ, zero, suc, ◌<◌, ◌+◌, true, ◌&&◌, nat_lt, List, [], ◌∷◌, ◌++◌, inl, inr, refl, sym, subst}
 use Rattle.std.specs.Prelude.{slice_index_or}
 use Rattle.std.proofs.lemmas.Bool.{and_parts, ltb-true, and_from}
-use Rattle.grammar.specs.Grammars.{Event, tokens}
+use Rattle.grammar.specs.Events.{Event, tokens}
 use Rattle.job_grammar.specs.Phrases.{Phrase, token, action, named, nothing, then, or, many, HasIn, Has}
 use Rattle.job_grammar.specs.Bounded.{kinds_below, all_kinds_below}
 

@@ -6,7 +6,8 @@ use Rattle.small_facts.proofs.Lists.{cons_not_nil, same_tail}
 use Rattle.small_facts.proofs.Options.{some_not_none}
 use Rattle.grammar.specs.declared.symbol.Symbol.{Symbol}
 use Rattle.grammar.specs.declared.symbol.Symbol.TheVariants.{Token, Part, Action}
-use Rattle.grammar.specs.Grammars.{Grammar, Event, took, did, did_all, Derives, on_next, turned, taken_if, effort, Step, taken, refused, doing, after_move, step_in, step}
+use Rattle.grammar.specs.Grammars.{Grammar, Derives, on_next, turned, taken_if, effort, Step, taken, refused, doing, after_move, step_in, step}
+use Rattle.grammar.specs.Events.{Event, took, did, did_all}
 use Rattle.grammar.specs.Tables.{Rows, grammar_of, moves_end}
 use Rattle.grammar.specs.Tests.{Certificate, named, is_ll1}
 use Rattle.grammar.proofs.Clean.{effort-append}

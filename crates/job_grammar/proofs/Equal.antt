@@ -6,7 +6,8 @@ use Rattle.std.proofs.lemmas.Option.{same_Some}
 use Rattle.small_facts.proofs.Numbers.{eqb_self}
 use Rattle.grammar.specs.declared.symbol.Symbol.{Symbol}
 use Rattle.grammar.specs.declared.symbol.Symbol.TheVariants.{Token, Part, Action}
-use Rattle.grammar.specs.Grammars.{Grammar, Event, took, did, DerivesIn, Derives, cost}
+use Rattle.grammar.specs.Grammars.{Grammar, DerivesIn, Derives, cost}
+use Rattle.grammar.specs.Events.{Event, took, did}
 use Rattle.grammar.specs.Tables.{Rows, rule_maybe, entry_rule, on_row, grammar_of, all_at, moves_end}
 use Rattle.grammar.specs.Tests.{Certificate, named, is_ll1}
 use Rattle.grammar.proofs.Checked.{all_at-first, on-ok, other-ok, other-found, rows-bounded}

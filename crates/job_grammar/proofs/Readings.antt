@@ -6,7 +6,8 @@ use Rattle.grammar.specs.declared.symbol.Symbol.{Symbol}
 use Rattle.grammar.specs.declared.symbol.Symbol.TheVariants.{Part}
 use Rattle.grammar.specs.declared.reply.Reply.{Reply}
 use Rattle.grammar.specs.declared.reply.Reply.TheVariants.{Taken, Refused}
-use Rattle.grammar.specs.Grammars.{Event, took, did, did_all, tokens, Begins, Derives, taken, refused, step}
+use Rattle.grammar.specs.Grammars.{Derives, taken, refused, step}
+use Rattle.grammar.specs.Events.{Event, took, did, did_all, tokens, Begins}
 use Rattle.grammar.specs.Tables.{grammar_of}
 use Rattle.grammar.specs.Reading.{Reading, step_of}
 use Rattle.grammar.specs.Runs.{IsReady, Leaves, RefusesNext, HasKinds}
@@ -19,7 +20,8 @@ use Rattle.job_grammar.specs.JobRows.{job_rows, certificate, meanings, meaning_o
 use Rattle.job_grammar.specs.Heads.{phrases}
 use Rattle.job_grammar.specs.Bounded.{all_kinds_below}
 use Rattle.job_grammar.specs.Texts
-use Rattle.job_grammar.specs.Texts.{IsJob, IsBegun, itself, AreDue, IsWhole, IsReading}
+use Rattle.job_grammar.specs.Texts.{IsJob, IsBegun, itself, AreDue, IsWhole}
+use Rattle.job_grammar.specs.Readings.{IsReading}
 use Rattle.job_grammar.proofs.Equal.{derived-has, has-derived}
 use Rattle.job_grammar.proofs.Table.{job_ll1, job_moves, job_same}
 use Rattle.job_grammar.proofs.Due.{due}

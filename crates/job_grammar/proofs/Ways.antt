@@ -2,7 +2,7 @@
 use Rattle.std.proofs.Common.{◌≡◌, ℕ, zero, suc, ◌+◌, List, [], ◌∷◌, ◌++◌, inl, inr, Some, None, refl, ap, sym, subst, ◌∙◌}
 use Rattle.std.specs.Prelude.{Option}
 use Rattle.small_facts.proofs.Lists.{cons_not_nil}
-use Rattle.grammar.specs.Grammars.{Event, took, did}
+use Rattle.grammar.specs.Events.{Event, took, did}
 use Rattle.job_grammar.specs.Phrases.{Phrase, token, action, named, nothing, then, or, many, HasIn, Has}
 use Rattle.job_grammar.specs.Heads.{flat_before, flat, heads}
 use Rattle.job_grammar.proofs.Same.{In, in-left, in-right, in-either, in-map, in-map-back, are-joined, behind-each}

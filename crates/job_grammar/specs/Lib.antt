@@ -4,4 +4,5 @@ pub mod JobGrammar
 pub mod Heads
 pub mod Bounded
 pub mod JobRows
+pub mod Readings
 pub mod Texts

@@ -1,7 +1,7 @@
 -- Grammars as they are written for readers: sequences, choices, repetitions and named parts, with the actions that go with them;
 -- and what such a grammar derives.
 use Rattle.std.specs.Prelude.{◌≡◌, ℕ, zero, suc, List, [], ◌∷◌, ◌⊎◌}
-use Rattle.grammar.specs.Grammars.{Event, took, did}
+use Rattle.grammar.specs.Events.{Event, took, did}
 use Rattle.job_tokens.specs.declared.kind.Kind.{Kind}
 use Rattle.job_tokens.specs.Words.{kind_number}
 use Rattle.job_grammar.specs.declared.action.Action.{Action}

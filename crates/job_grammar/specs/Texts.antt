@@ -1,13 +1,8 @@
 -- The texts of the grammar of jobs, and how far one has been read.
-use Rattle.std.specs.Prelude.{◌≡◌, ℕ, List, [], ◌∷◌, ◌++◌, Option, Some, None}
-use Rattle.grammar.specs.declared.symbol.Symbol.{Symbol}
-use Rattle.grammar.specs.declared.symbol.Symbol.TheVariants.{Part}
-use Rattle.grammar.specs.Grammars.{Event, did, did_all, tokens, Begins}
-use Rattle.grammar.specs.Tables.{grammar_of}
-use Rattle.grammar.specs.Runs.{IsReady, Leaves}
+use Rattle.std.specs.Prelude.{◌≡◌, ℕ, List, [], ◌∷◌, ◌++◌, Option}
+use Rattle.grammar.specs.Events.{Event, did, did_all, tokens, Begins}
 use Rattle.job_grammar.specs.Phrases.{named, Has}
 use Rattle.job_grammar.specs.JobGrammar.{job, rule_of}
-use Rattle.job_grammar.specs.JobRows.{job_rows, certificate}
 
 -- The kinds of the tokens of a job, with the actions between them in the order in which they are done.
 abbrev pub IsJob : List Event → Type 0
@@ -36,9 +31,3 @@ pub record AreDue (past : List Event) (actions : List ℕ) : Type 0 where
 pub record IsWhole (es : List Event) : Type 0 where
   pub is_job : IsJob es
   pub only : (fs : List Event) → IsJob fs → tokens fs ≡ tokens es → fs ≡ es
-
--- what a reader has left once these events have happened
-pub record IsReading (past : List Event) (left : List Symbol) : Type 0 where
-  pub leaves : Leaves (grammar_of job_rows) itself (Part 0 ∷ []) past left
-  pub ready : IsReady job_rows certificate left
-  pub begun : IsBegun past

@@ -1,11 +1,12 @@
 //! The reader of a job's tokens.
 ghost use Rattle.std.specs.Prelude.{◌≡◌, ◌≢◌, ◌∷◌, ◌++◌, [], List, true, Ok, Some, None, IfOk, OnOk};
-ghost use Rattle.grammar.specs.Grammars.{Event, took, did_all};
+ghost use Rattle.grammar.specs.Events.{Event, took, did_all};
 ghost use Rattle.grammar.specs.Tables.{moves_end};
 ghost use Rattle.grammar.specs.declared.reply.Reply.TheVariants.{Taken, Refused};
 ghost use Rattle.job_tokens.specs.Words.{kind_number};
 ghost use Rattle.job_grammar.specs.JobRows.{job_rows};
-ghost use Rattle.job_grammar.specs.Texts.{IsReading, IsWhole, AreDue, RefusesNext};
+ghost use Rattle.job_grammar.specs.Texts.{IsWhole, AreDue, RefusesNext};
+ghost use Rattle.job_grammar.specs.Readings.{IsReading};
 
 use crate::rows::{MOVES, ON, OTHER, RULES, SYMBOLS};
 use grammar::{Reader, Reply, Table};

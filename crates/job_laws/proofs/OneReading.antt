@@ -5,7 +5,8 @@ use Rattle.std.proofs.lemmas.List.{append-nil, append_cancel_left}
 use Rattle.small_facts.proofs.Lists.{same_tail, cons_not_nil}
 use Rattle.grammar.specs.declared.symbol.Symbol.{Symbol}
 use Rattle.grammar.specs.declared.symbol.Symbol.TheVariants.{Part}
-use Rattle.grammar.specs.Grammars.{Event, took, did, did_all, tokens, Derives, Step, taken, refused, step}
+use Rattle.grammar.specs.Grammars.{Derives, Step, taken, refused, step}
+use Rattle.grammar.specs.Events.{Event, took, did, did_all, tokens}
 use Rattle.grammar.specs.Tables.{grammar_of}
 use Rattle.grammar.proofs.Derivations.{tokens-append, tokens-did_all}
 use Rattle.job_tokens.specs.declared.token.Token.{Token}
@@ -14,7 +15,8 @@ use Rattle.job_tokens.specs.declared.token.Next.TheVariants as NextVariants
 use Rattle.job_tokens.specs.Words.{kind_number}
 use Rattle.job_tokens.specs.Texts.{next_at}
 use Rattle.job_grammar.specs.JobRows.{job_rows}
-use Rattle.job_grammar.specs.Texts.{IsJob, IsBegun, IsWhole, AreDue, RefusesNext, IsReading, itself}
+use Rattle.job_grammar.specs.Texts.{IsJob, IsBegun, IsWhole, AreDue, RefusesNext, itself}
+use Rattle.job_grammar.specs.Readings.{IsReading}
 use Rattle.job_grammar.proofs.Readings.{of-job, reading-start, reading-taken, refused-token, due-actions, never-taken}
 use Rattle.job_steps.specs.declared.step.Ending.{Ending}
 use Rattle.job_steps.specs.declared.step.Ending.TheVariants.{Whole, Unexpected, Unfinished, NoToken}

@@ -18,7 +18,8 @@ use Rattle.job_text.specs.declared.error.JobError.{JobError}
 use Rattle.job_text.specs.declared.error.JobKind.{JobKind}
 use Rattle.job_text.specs.declared.error.JobKind.TheVariants as Kinds
 use Rattle.job_text.specs.declared.error.Quantity.TheVariants as Quantities
-use Rattle.job_text.specs.Texts.{kind_of_why, kind_of_node}
+use Rattle.job_text.specs.Texts.{kind_of_why}
+use Rattle.job_text.specs.Refusals.{kind_of_node}
 use Rattle.job_text.specs.Nodes.{op_of, Builds, RefusesAsked}
 use Rattle.job_text.specs.Jobs.{Parts, StandsAt, IsJob, RefusesOne, IsNodeRefused, IsTextRefused, IsRefused, too_long, node, behind, no_memory}
 use Rattle.job_text.proofs.Building.{builds-count}

@@ -3,7 +3,8 @@ use Rattle.std.proofs.Common.{◌≡◌, ℕ, ◌<◌, ◌+◌, ◌≤◌, List,
 use Rattle.std.specs.Prelude.{bytes_eq}
 use Rattle.std.proofs.lemmas.List.{take_more, take-append-drop}
 use Rattle.std.proofs.lemmas.List.Sums.{sum_by-cons}
-use Rattle.io_edge.specs.View.{Files, Creates, Opens, raised, raised_by, times}
+use Rattle.io_edge.specs.View.{Files, raised, raised_by, times}
+use Rattle.io_edge.specs.Calls.{Creates, Opens}
 use Rattle.job_run.specs.Part.{RaisedAtMost}
 use Rattle.io_edge.proofs.OpeningLaws.{raised_zero, raised_again, raised_bounds}
 

@@ -5,12 +5,14 @@ use Rattle.std.proofs.lemmas.Bool.{cases_Bool, false≢true}
 use Rattle.std.proofs.lemmas.List.{length-map, take_all}
 use Rattle.std.proofs.lemmas.Slice.Eq.{bytes_eq-Decides}
 use Rattle.io_edge.specs.Content.{Content, Told, Untold, OnTold, told_bytes}
-use Rattle.io_edge.specs.View.{Files, Creates, raised_by, updated}
+use Rattle.io_edge.specs.View.{Files, raised_by}
+use Rattle.io_edge.specs.Calls.{Creates, updated}
 use Rattle.nd_shape.specs.Block.{Array}
 use Rattle.nd_rows.proofs.Turns.{split as below_or}
 use Rattle.array_expr.specs.Node.{shape_at}
-use Rattle.saved_files.specs.Filling.{IsFilling, IsPart, file_of}
-use Rattle.saved_files.specs.Saving.{Saving, saving_at, GivesBack, IsFresh, IsLeft, IsOf, LeavesOne, WereCreated}
+use Rattle.saved_files.specs.Filling.{IsFilling, file_of}
+use Rattle.saved_files.specs.Left.{IsPart, IsLeft}
+use Rattle.saved_files.specs.Saving.{Saving, saving_at, GivesBack, IsFresh, IsOf, LeavesOne, WereCreated}
 use Rattle.job_run.specs.Creating.{CreatesFirst, FailsNext}
 use Rattle.job_run.specs.Evaluating.{LeavesAll, node_at}
 use Rattle.job_run.specs.Part.{RaisedAtMost}

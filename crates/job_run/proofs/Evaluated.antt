@@ -7,14 +7,16 @@ use Rattle.io_edge.specs.Content.{Content, Told, Untold, OnTold, file_at, told_b
 use Rattle.io_edge.specs.Given.{Piece}
 use Rattle.io_edge.proofs.GivenLaws.{more_around}
 use Rattle.io_edge.proofs.Only.{reads_none}
-use Rattle.io_edge.specs.View.{View, Files, OnlyReads, OnlyWrites, raised_by}
+use Rattle.io_edge.specs.View.{View, Files, raised_by}
+use Rattle.io_edge.specs.Calls.{OnlyReads, OnlyWrites}
 use Rattle.nd_shape.specs.Block.{Array}
 use Rattle.array_expr.specs.Node.{shape_at}
 use Rattle.npy_codec.specs.declared.head.Head.{Head}
 use Rattle.task_graph.specs.declared.graph.Task.{Task}
 use Rattle.block_lowering.specs.Jobs.{Job, TellsFeed}
-use Rattle.saved_files.specs.Filling.{IsFilling, IsPart, file_of as bytes_of}
-use Rattle.saved_files.specs.Saving.{Saving, saving_at, GivesBack, IsLeft, IsOf, TakesAll, WereCreated}
+use Rattle.saved_files.specs.Filling.{IsFilling, file_of as bytes_of}
+use Rattle.saved_files.specs.Left.{IsPart, IsLeft}
+use Rattle.saved_files.specs.Saving.{Saving, saving_at, GivesBack, IsOf, TakesAll, WereCreated}
 use Rattle.job_run.specs.declared.blocks.Halt.{Halt}
 use Rattle.job_run.specs.declared.blocks.Halt.TheVariants as halts
 use Rattle.job_run.specs.declared.ends.Ended.{Ended}

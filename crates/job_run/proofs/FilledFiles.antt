@@ -7,7 +7,8 @@ use Rattle.nd_shape.specs.Shape.{elements}
 use Rattle.array_expr.specs.Node.{shape_at, IsExpression}
 use Rattle.lowering_laws.specs.Lowered.{lowered}
 use Rattle.npy_region.specs.Writing.{Turns}
-use Rattle.saved_files.specs.Filling.{IsFilling, IsPart, Cover, FillsWhole, file_of as bytes_of}
+use Rattle.saved_files.specs.Filling.{IsFilling, Cover, FillsWhole, file_of as bytes_of}
+use Rattle.saved_files.specs.Left.{IsPart}
 use Rattle.saved_files.specs.Saving.{Saving, saving_at, IsOf}
 use Rattle.job_run.specs.Evaluating.{node_at, array_at, boxes_made, AreOpenFor, FilesHold, FilesWhole, HasLaws}
 use Rattle.job_run.specs.Plan.{Plan, IsRunnable, nodes_saved}

@@ -11,7 +11,8 @@ use Rattle.nd_shape.specs.Region.{Box, moved}
 use Rattle.nd_shape.specs.Shape.{elements}
 use Rattle.chunk_layout.specs.Layouts.{blocks, block_of, lengths, region}
 use Rattle.chunk_layout.proofs.Parting.{in-region}
-use Rattle.saved_files.specs.Filling.{Cover, HoldsBox, IsFilling, IsPart, box_of, file_of}
+use Rattle.saved_files.specs.Filling.{Cover, HoldsBox, IsFilling, box_of, file_of}
+use Rattle.saved_files.specs.Left.{IsPart}
 use Rattle.npy_region.specs.Writing.{Turns}
 use Rattle.saved_files.specs.Saving.{ChangesAt, IsOf, Saving, saving_at}
 use Rattle.job_run.specs.Filling.{AreBlocksOf, FillsAll, FillsFirst, FillsSome, FilledBelow, KeepNames, boxes_to, keys_at, layout_at}

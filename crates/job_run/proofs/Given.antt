@@ -1,13 +1,14 @@
 -- Whatever gave what was read: its heads, and the elements that its arrays have.
 use Rattle.std.proofs.Common.{◌≡◌, ℕ, zero, suc, ◌<◌, List, [], ◌∷◌, ◌++◌, length, get_or, map, refl, ap, sym, ◌∙◌, subst, arith}
 use Rattle.io_edge.specs.Content.{Content, Told, file_at}
-use Rattle.io_edge.specs.Given.{Gives, GivesOf, OnGiven, Piece}
+use Rattle.io_edge.specs.Given.{Gives, OnGiven, Piece}
+use Rattle.io_edge.specs.Transcript.{GivesOf}
 use Rattle.io_edge.proofs.GivenLaws.{given_any, given_both, given_on, more_same}
 use Rattle.nd_shape.specs.Block.{Array}
 use Rattle.npy_codec.specs.declared.head.Head.{Head}
 use Rattle.npy_codec.specs.Files.{HasHead}
-use Rattle.npy_codec.specs.Regions.{no_head}
-use Rattle.plain_eval.specs.Eval.{block_at, held_in}
+use Rattle.npy_codec.specs.Needed.{no_head}
+use Rattle.plain_eval.specs.Held.{block_at, held_in}
 use Rattle.block_lowering.specs.Jobs.{FitsFeed, HaveNamed, files_given}
 use Rattle.job_run.specs.Inputs.{HoldArrays, HoldsArray}
 use Rattle.job_run.specs.Loading.{AreHeads, HaveHeadsNamed, IsHeadFor}

@@ -2,7 +2,8 @@
 use Rattle.std.proofs.Common.{◌≡◌, ℕ, zero, suc, ◌+◌, ◌<◌, List, [], ◌∷◌, ◌++◌, length, get_or, map, refl, sym, ◌∙◌, subst, inl, inr, arith}
 use Rattle.std.proofs.lemmas.Option.{get_or_from_slice_get, slice_get_read}
 use Rattle.io_edge.specs.Content.{Content, Told}
-use Rattle.io_edge.specs.Given.{Gives, GivesOf, OnGiven, Piece}
+use Rattle.io_edge.specs.Given.{Gives, OnGiven, Piece}
+use Rattle.io_edge.specs.Transcript.{GivesOf}
 use Rattle.io_edge.proofs.GivenLaws.{file_as, given_any, given_as, given_back, given_both, given_on, more_same}
 use Rattle.nd_shape.specs.Block.{Array}
 use Rattle.nd_rows.proofs.Turns.{split as below_or}

@@ -13,8 +13,10 @@ use Rattle.cluster_msgs.specs.Values.{faulty}
 use Rattle.cluster_msgs.proofs.ValueLemmas.{cone-below, faulty-none}
 use Rattle.task_graph.specs.declared.graph.Task.{Task}
 use Rattle.task_graph.specs.Graphs.{shape_of, value}
-use Rattle.lowering_laws.specs.Named.{box_of, name_of, IsName}
-use Rattle.lowering_laws.specs.Faults.{IsFault, IsZeroDivide, DividesByZero}
+use Rattle.lowering_laws.specs.Named.{box_of, name_of}
+use Rattle.lowering_laws.specs.NameLaws.{IsName}
+use Rattle.lowering_laws.specs.Faults.{DividesByZero}
+use Rattle.lowering_laws.specs.FaultLaws.{IsFault, IsZeroDivide}
 use Rattle.lowering_laws.specs.Whole.{IsSound}
 use Rattle.job_run.specs.Evaluating.{HasLaws, HaveAll, HoldsNamed, IsBlockNamed}
 use Rattle.job_run.specs.Lowering.{HasBlock}

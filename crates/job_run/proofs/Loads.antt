@@ -5,20 +5,21 @@ use Rattle.std.proofs.lemmas.List.{get_or_append_left, take_more}
 use Rattle.io_edge.specs.Cause.{Rose}
 use Rattle.io_edge.specs.Content.{Content, Told, OnTold, file_at}
 use Rattle.io_edge.specs.Given.{Piece}
-use Rattle.io_edge.specs.View.{View, Files, Shows}
+use Rattle.io_edge.specs.View.{View, Files}
+use Rattle.io_edge.specs.Calls.{Shows}
 use Rattle.nd_shape.specs.Block.{Array}
 use Rattle.nd_rows.proofs.Turns.{split as below_or}
 use Rattle.array_expr.specs.declared.expr.Node.{Node}
 use Rattle.array_expr.specs.Elem.{is_input}
 use Rattle.npy_codec.specs.declared.head.Head.{Head}
-use Rattle.npy_codec.specs.Regions.{no_head}
+use Rattle.npy_codec.specs.Needed.{no_head}
 use Rattle.job_run.specs.declared.ends.Ended.{Ended}
 use Rattle.job_run.specs.declared.ends.Ended.TheVariants.{Done, Limit, File, Zero, Killed, ReadFault, WriteFault, OutOfMemory}
 use Rattle.job_run.specs.declared.ends.FileError.{FileError}
 use Rattle.job_run.specs.Inputs.{FirstRefusal, FitInputs, FitsShape, HoldsArray, InputsFit, RefusesFile, told_all}
 use Rattle.job_run.specs.Loading.{AreHeads, HeadEnds, IsHeadFor, IsRefusedAt, LoadEnds, LoadGiven}
 use Rattle.job_run.specs.Plan.{Plan, input_shapes}
-use Rattle.job_run.specs.Runs.{ReadCause}
+use Rattle.job_run.specs.Evaluation.{ReadCause}
 use Rattle.job_run.specs.Told.{array_told}
 use Rattle.job_run.proofs.GivenLoads.{refusal_given, shape_at}
 use Rattle.job_run.proofs.Told.{held_array, inputs_there, on_content, on_told, told_fact}

@@ -10,7 +10,8 @@ use Rattle.array_expr.specs.Node.{shape_at, IsExpression}
 use Rattle.chunk_layout.specs.Layouts.{lengths, blocks, region, block_of}
 use Rattle.chunk_layout.proofs.Parting.{in-region}
 use Rattle.lowering_laws.specs.Lowered.{lowered}
-use Rattle.lowering_laws.specs.Named.{layout_of, name_of, LawOfNames}
+use Rattle.lowering_laws.specs.Named.{layout_of, name_of}
+use Rattle.lowering_laws.specs.NameLaws.{LawOfNames}
 use Rattle.lowering_laws.specs.Whole.{saved_key}
 use Rattle.saved_files.specs.Filling.{Cover, IsCovered, box_of as box_at}
 use Rattle.job_run.specs.Evaluating.{node_at, boxes_in, boxes_made}

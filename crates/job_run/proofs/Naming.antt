@@ -3,14 +3,16 @@ use Rattle.std.proofs.Common.{◌≡◌, ℕ, zero, suc, pos, ◌<◌, ◌≤◌
 use Rattle.std.specs.Prelude.{IsSome}
 use Rattle.std.proofs.lemmas.List.FromFn.{get_or-map-range_with_len, length-map-range_with_len}
 use Rattle.io_edge.specs.Content.{Content, Told, Untold, OnTold, file_at, told_bytes}
-use Rattle.io_edge.specs.View.{Files, Shows}
+use Rattle.io_edge.specs.View.{Files}
+use Rattle.io_edge.specs.Calls.{Shows}
 use Rattle.nd_shape.specs.Block.{Array}
 use Rattle.nd_shape.specs.Index.{IsIn, place, index_at}
 use Rattle.nd_shape.specs.Shape.{elements}
 use Rattle.nd_shape.proofs.Places.{place-below, index_at-place, IsIn-length}
 use Rattle.npy_codec.specs.declared.head.Head.{Head}
-use Rattle.npy_codec.specs.Regions.{element, no_head}
-use Rattle.plain_eval.specs.Eval.{block_at, held_in}
+use Rattle.npy_codec.specs.Regions.{element}
+use Rattle.npy_codec.specs.Needed.{no_head}
+use Rattle.plain_eval.specs.Held.{block_at, held_in}
 use Rattle.block_lowering.specs.Jobs.{FitsFeed, TellsFeed, head_at}
 use Rattle.job_run.specs.Inputs.{HoldArrays, HoldsArray, told_all}
 use Rattle.job_run.specs.Loading.{AreHeads, IsHeadFor}

@@ -2,7 +2,8 @@
 use Rattle.std.proofs.Common.{◌≡◌, ℕ, Bool, List, [], ◌∷◌, ◌++◌, Some, None, refl, ap, sym, subst, ◌∙◌}
 use Rattle.grammar.specs.declared.symbol.Symbol.{Symbol}
 use Rattle.grammar.specs.declared.symbol.Symbol.TheVariants.{Part}
-use Rattle.grammar.specs.Grammars.{Event, Step, took, did_all, tokens, Begins, Derives, taken, refused, step}
+use Rattle.grammar.specs.Grammars.{Step, Derives, taken, refused, step}
+use Rattle.grammar.specs.Events.{Event, took, did_all, tokens, Begins}
 use Rattle.grammar.specs.Runs.{IsReady, Leaves}
 use Rattle.grammar.proofs.Derivations.{tokens-append, tokens-did_all}
 use Rattle.grammar.proofs.RunLaws.{ready-taken, leaves-start, leaves-taken, refused-next, ended}

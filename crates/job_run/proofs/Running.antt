@@ -2,15 +2,17 @@
 use Rattle.std.proofs.Common.{◌≡◌, ℕ, ◌≤◌, List, [], get_or, refl, ap, sym, ◌∙◌, subst, inl, inr, arith}
 use Rattle.std.specs.Prelude.{IfSome, IsTrue, Option, Some, None}
 use Rattle.io_edge.specs.Cause.{Rose}
-use Rattle.io_edge.specs.Content.{Content, followed_by, PrintsPart}
+use Rattle.io_edge.specs.Content.{Content}
+use Rattle.io_edge.specs.Printing.{followed_by, PrintsPart}
 use Rattle.io_edge.proofs.GivenLaws.{given_before, given_later, more_same, more_then}
 use Rattle.io_edge.proofs.Only.{reads_none}
-use Rattle.io_edge.specs.View.{View, Files, Opens, OnlyReads, OnlyOut, raised_by}
+use Rattle.io_edge.specs.View.{View, Files, raised_by}
+use Rattle.io_edge.specs.Calls.{Opens, OnlyReads, OnlyOut}
 use Rattle.nd_shape.specs.Block.{Array}
 use Rattle.npy_codec.specs.declared.head.Head.{Head}
-use Rattle.plain_eval.specs.Eval.{held_in}
+use Rattle.plain_eval.specs.Held.{held_in}
 use Rattle.block_lowering.specs.Jobs.{TellsFeed}
-use Rattle.saved_files.specs.Saving.{IsLeft}
+use Rattle.saved_files.specs.Left.{IsLeft}
 use Rattle.job_run.specs.declared.ends.Ended.{Ended}
 use Rattle.job_run.specs.declared.ends.Ended.TheVariants.{Done, Limit, File, Zero, Killed, ReadFault, WriteFault, OutOfMemory}
 use Rattle.job_run.specs.Evaluating.{EvaluatesInputs}
@@ -18,7 +20,8 @@ use Rattle.job_run.specs.Inputs.{HoldArrays, InputsFit, told_all}
 use Rattle.job_run.specs.Lowering.{LowerCause}
 use Rattle.job_run.specs.Part.{AreLeft, AreWhole, RaisedAtMost}
 use Rattle.job_run.specs.Plan.{Plan, input_shapes, names_saved}
-use Rattle.job_run.specs.Runs.{AreRight, AreSaved, Cause, Created, HasValues, IsSmall, Opened, Prints, ReadCause, RunsPlan, Saves, StopsPrinting, lines_of}
+use Rattle.job_run.specs.Runs.{AreRight, AreSaved, Cause, Created, HasValues, IsSmall, Opened, Prints, Saves, StopsPrinting, lines_of}
+use Rattle.job_run.specs.Evaluation.{ReadCause, RunsPlan}
 use Rattle.job_run.specs.Told.{named_told}
 use Rattle.job_run.specs.Values.{MeetsNone, MeetsZero, Named, OnInputs, files_of}
 use Rattle.job_run.proofs.Counting.{none_raised, opened_most, raised_at_most}

@@ -7,7 +7,8 @@ use Rattle.block_kernels.specs.Kernels.{result_shape}
 use Rattle.chunk_layout.specs.Layouts.{blocks, lengths, region}
 use Rattle.task_graph.specs.Graphs.{task_at, value}
 use Rattle.lowering_laws.specs.Lowered.{lowered}
-use Rattle.lowering_laws.specs.Named.{LawOfNames, layout_of}
+use Rattle.lowering_laws.specs.Named.{layout_of}
+use Rattle.lowering_laws.specs.NameLaws.{LawOfNames}
 use Rattle.lowering_laws.specs.Whole.{LawOfOrder, saved_key}
 use Rattle.lowering_laws.proofs.NamesLaw.{names-law}
 use Rattle.lowering_laws.proofs.Order.{lowering-order}

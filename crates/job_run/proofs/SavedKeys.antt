@@ -12,12 +12,14 @@ use Rattle.cluster_msgs.proofs.ValueLemmas.{cone-below}
 use Rattle.task_graph.specs.Graphs.{shape_of, value}
 use Rattle.lowering_laws.specs.Lowered.{lowered}
 use Rattle.lowering_laws.specs.Named.{name_of}
-use Rattle.lowering_laws.specs.Faults.{DividesByZero, IsZeroDivide}
+use Rattle.lowering_laws.specs.Faults.{DividesByZero}
+use Rattle.lowering_laws.specs.FaultLaws.{IsZeroDivide}
 use Rattle.job_run.specs.Evaluating.{HasLaws, HaveAll}
 use Rattle.job_run.specs.Lowering.{HasBlock}
 use Rattle.job_run.specs.Plan.{IsRunnable, Plan, nodes_saved}
 use Rattle.job_run.specs.Values.{IsFaulty, MeetsNone, Named, tasks_of}
-use Rattle.job_run.specs.Wanted.{IsBlockAt, wanted_of}
+use Rattle.job_run.specs.Wanted.{IsBlockAt}
+use Rattle.job_run.specs.Keys.{wanted_of}
 use Rattle.job_run.proofs.KeyValues.{has-block, lacks-none}
 use Rattle.job_run.proofs.Laws.{saves-there}
 use Rattle.job_run.proofs.Reached.{all-parts, all-valued, each, member}

@@ -6,7 +6,8 @@ use Rattle.io_edge.specs.Content.{told_bytes}
 use Rattle.io_edge.specs.View.{Files}
 use Rattle.nd_shape.specs.Block.{Array}
 use Rattle.array_expr.specs.Node.{shape_at}
-use Rattle.saved_files.specs.Filling.{IsPart, file_of}
+use Rattle.saved_files.specs.Filling.{file_of}
+use Rattle.saved_files.specs.Left.{IsPart}
 use Rattle.saved_files.specs.Saving.{GivesBack, Saving, saving_at}
 use Rattle.job_run.specs.Evaluating.{AreFresh, AreOpenFor, node_at}
 use Rattle.job_run.specs.Part.{IsNoneOf}

@@ -4,7 +4,7 @@ use Rattle.std.proofs.lemmas.List.Sums.{sum_by-cons}
 use Rattle.io_edge.specs.Content.{Content}
 use Rattle.nd_shape.specs.Region.{IsPart}
 use Rattle.npy_codec.specs.declared.head.Head.{Head}
-use Rattle.npy_codec.specs.Regions.{no_head}
+use Rattle.npy_codec.specs.Needed.{no_head}
 use Rattle.array_expr.specs.declared.expr.Node.{Node}
 use Rattle.array_expr.specs.Elem.{is_input}
 use Rattle.array_expr.specs.Node.{shape_at}

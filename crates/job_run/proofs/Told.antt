@@ -4,7 +4,8 @@ use Rattle.std.specs.Prelude.{IfSome, IsSome, IsTrue, option_and_then}
 use Rattle.std.specs.Option.{option_map}
 use Rattle.std.proofs.lemmas.List.FromFn.{get_or-map-range_with_len, length-map-range_with_len}
 use Rattle.io_edge.specs.Content.{Content, Told, Untold, OnTold, file_at}
-use Rattle.io_edge.specs.View.{Files, Shows}
+use Rattle.io_edge.specs.View.{Files}
+use Rattle.io_edge.specs.Calls.{Shows}
 use Rattle.nd_shape.specs.Index.{index_at, place}
 use Rattle.nd_shape.specs.Shape.{elements}
 use Rattle.nd_shape.proofs.Places.{IsIn-length, index_at-place, place-below}

@@ -4,7 +4,7 @@ use Rattle.io_edge.specs.Content.{Content}
 use Rattle.io_edge.specs.Given.{Agree, OnGiven, Piece}
 use Rattle.io_edge.specs.View.{View}
 use Rattle.npy_codec.specs.declared.head.Head.{Head}
-use Rattle.plain_eval.specs.Eval.{held_in}
+use Rattle.plain_eval.specs.Held.{held_in}
 use Rattle.job_run.specs.Evaluating.{GivenOver}
 use Rattle.job_run.specs.Inputs.{FitInputs}
 use Rattle.job_run.specs.Loading.{AreHeads, HaveHeadsNamed}

@@ -1,6 +1,7 @@
 -- The files of a plan's saves while they are created, one after another: what the private function answers.
 use Rattle.std.specs.Prelude.{◌≡◌, ◌<◌, ℕ, List, length, take, bytes_eq, false}
-use Rattle.io_edge.specs.View.{Files, Creates, raised_by}
+use Rattle.io_edge.specs.View.{Files, raised_by}
+use Rattle.io_edge.specs.Calls.{Creates}
 use Rattle.array_expr.specs.Node.{shape_at}
 use Rattle.saved_files.specs.Saving.{Saving, saving_at, IsFresh, LeavesOne, WereCreated}
 use Rattle.job_run.specs.Evaluating.{node_at}

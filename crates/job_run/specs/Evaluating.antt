@@ -2,7 +2,8 @@
 use Rattle.std.specs.Prelude.{◌≡◌, ◌≤◌, ◌<◌, ℕ, List, [], ◌∷◌, cond, nat_eq, length, take, slice_index_or, Option, Some, None, Bool, IsTrue, IsSome}
 use Rattle.io_edge.specs.Cause.{Rose}
 use Rattle.io_edge.specs.Content.{OnTold, told_bytes}
-use Rattle.io_edge.specs.Given.{Agree, GivesMore, Piece}
+use Rattle.io_edge.specs.Given.{Agree, Piece}
+use Rattle.io_edge.specs.Transcript.{GivesMore}
 use Rattle.npy_codec.specs.declared.head.Head.{Head}
 use Rattle.block_lowering.specs.Jobs.{HaveNamed}
 use Rattle.io_edge.specs.View.{View, Files, raised_by}
@@ -12,12 +13,13 @@ use Rattle.array_expr.specs.Node.{shape_at, IsExpression}
 use Rattle.chunk_layout.specs.Layouts.{region}
 use Rattle.task_graph.specs.Graphs.{value}
 use Rattle.lowering_laws.specs.Lowered.{lowered}
-use Rattle.lowering_laws.specs.Named.{layout_of, box_of, LawOfNames, LawOfNamed}
-use Rattle.lowering_laws.specs.Named.{IsName as NamesBlock}
-use Rattle.lowering_laws.specs.Faults.{LawOfFaults}
+use Rattle.lowering_laws.specs.Named.{layout_of, box_of}
+use Rattle.lowering_laws.specs.NameLaws.{LawOfNames, LawOfNamed, IsName as NamesBlock}
+use Rattle.lowering_laws.specs.FaultLaws.{LawOfFaults}
 use Rattle.lowering_laws.specs.Whole.{LawOfOrder}
-use Rattle.saved_files.specs.Filling.{IsFilling, IsPart, HoldsBox, file_of as bytes_of}
-use Rattle.saved_files.specs.Saving.{Saving, saving_at, IsFresh, IsOf, IsLeft}
+use Rattle.saved_files.specs.Filling.{IsFilling, HoldsBox, file_of as bytes_of}
+use Rattle.saved_files.specs.Left.{IsPart, IsLeft}
+use Rattle.saved_files.specs.Saving.{Saving, saving_at, IsFresh, IsOf}
 use Rattle.job_run.specs.declared.ends.Ended.{Ended}
 use Rattle.job_run.specs.declared.ends.Ended.TheVariants.{Done, Zero, Killed, ReadFault, WriteFault, OutOfMemory}
 use Rattle.job_run.specs.declared.blocks.Halt.{Halt}

@@ -8,7 +8,7 @@ use Rattle.npy_codec.specs.declared.head.Head.{Head}
 use Rattle.npy_codec.specs.declared.error.NpyError.{NpyError}
 use Rattle.npy_codec.specs.declared.error.NpyError.TheVariants.{ReadFault, OutOfMemory}
 use Rattle.npy_codec.specs.Files.{HasHead, IsNpy, IsRefusedAs, error_text}
-use Rattle.plain_eval.specs.Eval.{block_at}
+use Rattle.plain_eval.specs.Held.{block_at}
 use Rattle.job_run.specs.declared.ends.FileError.{FileError}
 use Rattle.job_run.specs.declared.ends.FileError.TheVariants.{Npy, Shape}
 use Rattle.job_run.specs.Plan.{Plan, name_at, input_shapes}

@@ -1,9 +1,11 @@
 pub mod Creating
 pub mod Evaluating
+pub mod Evaluation
 pub mod Filling
 pub mod Grouping
 pub mod Inputs
 pub use Rattle.job_plan.specs.Jobs
+pub mod Keys
 pub mod Loading
 pub mod Lowering
 pub mod Part

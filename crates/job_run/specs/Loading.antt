@@ -2,10 +2,11 @@
 use Rattle.std.specs.Prelude.{◌≡◌, ◌≤◌, ◌<◌, ◌+◌, ◌^◌, ℕ, List, [], length, slice_index_or}
 use Rattle.io_edge.specs.Cause.{Rose}
 use Rattle.io_edge.specs.Content.{Content, OnTold, file_at, size_of}
-use Rattle.io_edge.specs.Given.{Gives, GivesOf, Piece}
+use Rattle.io_edge.specs.Given.{Gives, Piece}
+use Rattle.io_edge.specs.Transcript.{GivesOf}
 use Rattle.npy_codec.specs.declared.head.Head.{Head}
 use Rattle.npy_codec.specs.Files.{HasHead, data_bytes}
-use Rattle.npy_codec.specs.Regions.{IsWidth}
+use Rattle.npy_codec.specs.Needed.{IsWidth}
 use Rattle.job_run.specs.declared.ends.Ended.{Ended}
 use Rattle.job_run.specs.declared.ends.Ended.TheVariants.{File, ReadFault, OutOfMemory}
 use Rattle.job_run.specs.declared.ends.FileError.{FileError}

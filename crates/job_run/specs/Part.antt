@@ -1,7 +1,7 @@
 -- What is left of the saved files, and how often names are used.
 use Rattle.std.specs.Prelude.{◌≡◌, ◌≤◌, ◌<◌, ◌+◌, ℕ, List, length, Some, bytes_eq, false}
 use Rattle.io_edge.specs.View.{Files, times}
-use Rattle.saved_files.specs.Saving.{IsLeft}
+use Rattle.saved_files.specs.Left.{IsLeft}
 use Rattle.job_run.specs.Plan.{name_at}
 
 -- the files of these names hold these bytes

@@ -1,16 +1,16 @@
 -- How a run of a job ends, why it ends so, and what it leaves.
 use Rattle.std.specs.Prelude.{◌≡◌, ◌⊎◌, ℕ, List, ◌++◌, codes, map, IsTrue, None, Some}
 use Rattle.io_edge.specs.Cause.{Rose}
-use Rattle.io_edge.specs.Content.{followed_by, PrintsPart}
-use Rattle.io_edge.specs.Given.{Gives, GivesMore}
+use Rattle.io_edge.specs.Printing.{followed_by, PrintsPart}
+use Rattle.io_edge.specs.Given.{Gives}
 use Rattle.io_edge.specs.View.{View, Files, raised_by}
-use Rattle.plain_eval.specs.Eval.{held_in}
+use Rattle.plain_eval.specs.Held.{held_in}
 use Rattle.lowering_laws.specs.Lowered.{limit_of}
 use Rattle.job_run.specs.declared.ends.Ended.{Ended}
 use Rattle.job_run.specs.declared.ends.Ended.TheVariants.{Done, Limit, File, Zero, Killed, ReadFault, WriteFault, OutOfMemory}
 use Rattle.job_run.specs.declared.ends.FileError.{FileError}
 use Rattle.job_run.specs.Inputs.{FirstRefusal, FitInputs, InputsFit, InputRefused}
-use Rattle.job_run.specs.Part.{AreWhole, AreLeft, IsNoneOf, RaisedAtMost}
+use Rattle.job_run.specs.Part.{AreWhole, AreLeft, RaisedAtMost}
 use Rattle.job_run.specs.Plan.{Plan, names_saved}
 use Rattle.job_run.specs.Values.{OfGiven, OnInputs, IsFaulty, MeetsZero, MeetsNone, files_of, saved_lines}
 
@@ -55,13 +55,6 @@ Cause p old new (Killed key losses) = ⊥
 Cause p old new ReadFault = IsSmall p × Rose old.read_faults new.read_faults
 Cause p old new WriteFault = IsSmall p × InputsFit p old.files × WritesFail p old new
 Cause p old new OutOfMemory = Unit {0}
-
--- why the inputs weren't opened, or one of them is refused
-abbrev pub ReadCause : Plan → View → View → Ended → Type 0
-ReadCause p old new (File place error) = InputRefused p old.files place error × IsRefusedGiven p old new place error
-ReadCause p old new ReadFault = Rose old.read_faults new.read_faults
-ReadCause p old new OutOfMemory = Unit {0}
-ReadCause p old new end = ⊥
 
 -- all saved files are whole, where a site tells
 abbrev pub AreSaved : Plan → Files → Files → Type 0
@@ -129,18 +122,3 @@ pub record IsAccepted (p : Plan) (names : List (List ℕ)) (old new : Files) : T
 -- Whatever the end of a work: where a file was touched, all of these names were opened, once each, and the inputs are accepted.
 abbrev pub Looked : Plan → List (List ℕ) → Files → Files → Type 0
 Looked p names old new = AreUntouched old new ⊎ IsAccepted p names old new
-
--- what a run of a job does
-pub record RunsPlan (p : Plan) (old new : View) (end : Ended) : Type 0 where
-  pub cause : Cause p old new end
-  pub saves : Saves p old.files new.files end
-  pub looked : Looked p p.inputs old.files new.files
-  pub others : (n : List ℕ) → IsNoneOf n (names_saved p) → new.files.held n ≡ old.files.held n
-  pub tells : new.files.tells ≡ old.files.tells
-  pub opened : Opened p.inputs old.files.opened new.files.opened end
-  pub created : Created (names_saved p) old.files.created new.files.created end
-  pub prints : Prints p old new end
-  pub gave : GivesMore old.gave new.gave
-  pub err : new.err ≡ old.err
-  pub note_faults : new.note_faults ≡ old.note_faults
-  pub spills : new.spills ≡ old.spills

@@ -5,7 +5,8 @@ use Rattle.nd_shape.specs.Block.{Array}
 use Rattle.array_expr.specs.Node.{shape_at}
 use Rattle.chunk_layout.specs.Layouts.{lengths}
 use Rattle.saved_files.specs.Filling.{file_of as bytes_of}
-use Rattle.saved_files.specs.Saving.{IsLeft, IsOf}
+use Rattle.saved_files.specs.Saving.{IsOf}
+use Rattle.saved_files.specs.Left.{IsLeft}
 use Rattle.job_run.specs.Evaluating.{node_at}
 use Rattle.job_run.specs.Plan.{Plan, name_at, names_saved}
 use Rattle.job_run.specs.Filling.{AreBlocksOf, HasBlocks, keys_at, layout_at}

@@ -7,7 +7,7 @@ use Rattle.nd_shape.specs.Index.{index_at}
 use Rattle.nd_shape.specs.Shape.{elements}
 use Rattle.npy_codec.specs.declared.head.Head.{Head}
 use Rattle.npy_codec.specs.Regions.{element}
-use Rattle.plain_eval.specs.Eval.{held_in}
+use Rattle.plain_eval.specs.Held.{held_in}
 
 -- the array of a file with this head, or one of no elements where the file doesn't tell them
 abbrev pub array_told : Content → Head → Array

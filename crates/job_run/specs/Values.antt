@@ -2,7 +2,7 @@
 use Rattle.std.specs.Prelude.{◌≡◌, ◌<◌, ℕ, ℤ, pos, List, [], ◌∷◌, ◌++◌, codes, map, slice_index_or, length, unwrap_or, Some, IfSome, true}
 use Rattle.io_edge.specs.Given.{Gives}
 use Rattle.io_edge.specs.View.{Files, View}
-use Rattle.plain_eval.specs.Eval.{held_in}
+use Rattle.plain_eval.specs.Held.{held_in}
 use Rattle.nd_shape.specs.Block.{Array}
 use Rattle.nd_shape.specs.Index.{index_at}
 use Rattle.nd_shape.specs.Shape.{shape_text, comma_list}

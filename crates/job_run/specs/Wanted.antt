@@ -1,6 +1,5 @@
 -- What the client of a cluster wants of a plan: the keys of its saved blocks.
 use Rattle.std.specs.Prelude.{◌≡◌, ℕ, List, map, Some}
-use Rattle.std.specs.List.{flat_map}
 use Rattle.lowering_laws.specs.Lowered.{lowered}
 use Rattle.lowering_laws.specs.Named.{layout_of, name_of}
 use Rattle.job_run.specs.declared.ends.Ended.{Ended}
@@ -10,10 +9,7 @@ use Rattle.job_run.specs.Lowering.{counts_made}
 use Rattle.job_run.specs.Plan.{Plan, nodes_saved}
 use Rattle.job_run.specs.Runs.{IsSmall}
 use Rattle.job_run.specs.Values.{index_of}
-
--- the keys of all saved blocks, save by save
-abbrev pub wanted_of : Plan → List ℕ
-wanted_of p = flat_map (λ ks. ks) (lowered p.nodes (nodes_saved p)).saved
+use Rattle.job_run.specs.Keys.{wanted_of}
 
 -- what is wanted of a plan: the keys of its saved blocks, and what is known of them
 pub record IsWantedOf (p : Plan) (w : Wanted) : Type 0 where

@@ -1,7 +1,8 @@
 //! The files of a job's saves.
 ghost use Rattle.std.specs.Prelude.{◌≡◌, ℕ, List, [], length, IfOk, OnOk, OnErr};
 ghost use Rattle.io_edge.specs.Cause.{HasOpenCause};
-ghost use Rattle.io_edge.specs.View.{OnlyWrites, raised_by};
+ghost use Rattle.io_edge.specs.View.{raised_by};
+ghost use Rattle.io_edge.specs.Calls.{OnlyWrites};
 ghost use Rattle.saved_files.specs.Saving.{WereCreated};
 ghost use Rattle.job_run.specs.Creating.{CreatesFirst, FailsNext};
 ghost use Rattle.job_run.specs.Evaluating.{AreFresh, AreOpenFor, LeavesAll};

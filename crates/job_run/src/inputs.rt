@@ -1,13 +1,14 @@
 //! The inputs of a job, opened, and their heads read.
 ghost use Rattle.std.specs.Prelude.{◌≡◌, ◌≤◌, ◌++◌, [], ◌∷◌, length, cond, map, IfOk, IfErr, OnOk};
 ghost use Rattle.io_edge.specs.Given.{OnGiven};
-ghost use Rattle.io_edge.specs.View.{Opens, OnlyReads, Shows, raised_by};
+ghost use Rattle.io_edge.specs.View.{raised_by};
+ghost use Rattle.io_edge.specs.Calls.{Opens, OnlyReads, Shows};
 ghost use Rattle.array_expr.specs.Elem.{is_input};
 ghost use Rattle.job_run.specs.Inputs.{FitInputs, InputsFit};
 ghost use Rattle.job_run.specs.Jobs.{plan_of};
 ghost use Rattle.job_run.specs.Loading.{HaveHeadsNamed, AreHeads};
 ghost use Rattle.job_run.specs.Plan.{IsRunnable, input_shapes};
-ghost use Rattle.job_run.specs.Runs.{ReadCause};
+ghost use Rattle.job_run.specs.Evaluation.{ReadCause};
 
 use crate::ends::Ended;
 use crate::load::read_heads;

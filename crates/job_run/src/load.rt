@@ -1,7 +1,8 @@
 //! Reads of the inputs' heads from an open store.
 ghost use Rattle.std.specs.Prelude.{◌≡◌, ◌≤◌, ◌<◌, ◌^◌, length, IfOk, IfErr, OnOk, IsTrue, ◌↔◌};
 ghost use Rattle.io_edge.specs.Content.{file_at};
-ghost use Rattle.io_edge.specs.Given.{Gives, GivesOf};
+ghost use Rattle.io_edge.specs.Given.{Gives};
+ghost use Rattle.io_edge.specs.Transcript.{GivesOf};
 ghost use Rattle.job_run.specs.Inputs.{FitsShape};
 ghost use Rattle.npy_codec.specs.Files.{HasHead};
 ghost use Rattle.job_run.specs.Loading.{AreHeads, FitNamed, HaveHeadsNamed, HeadEnds, HeadGiven, IsHeadFor, LoadEnds, LoadGiven};

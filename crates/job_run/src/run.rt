@@ -1,7 +1,7 @@
 //! A run of a job.
 ghost use Rattle.job_run.specs.Jobs.{plan_of};
 ghost use Rattle.job_run.specs.Plan.{IsRunnable};
-ghost use Rattle.job_run.specs.Runs.{RunsPlan};
+ghost use Rattle.job_run.specs.Evaluation.{RunsPlan};
 
 use crate::ends::Ended;
 use crate::evaluate::evaluate;

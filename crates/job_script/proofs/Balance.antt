@@ -1,7 +1,7 @@
 -- Whatever tokens a job begins with, each action has its operands.
 use Rattle.std.proofs.Common.{◌≡◌, ℕ, zero, suc, ◌≤◌, List, [], ◌∷◌, ◌++◌, refl, sym, subst, ◌∙◌, inl, inr, arith}
 use Rattle.std.specs.Prelude.{Option, Some, None, slice_get, slice_index_or}
-use Rattle.grammar.specs.Grammars.{Event, took, did}
+use Rattle.grammar.specs.Events.{Event, took, did}
 use Rattle.job_grammar.specs.declared.action.Action.{Action}
 use Rattle.job_grammar.specs.declared.action.Action.TheVariants.{Define, SavedName, SaveFile, Combine, Negate, Literal, NegativeLiteral, Refer, AddSlice, ReverseAxes, Reduce, Choose, AddTranspose, AddRechunk, OpenList, AddConcatenate, AddTensordot, AddFull, AddRamp}
 use Rattle.job_grammar.specs.Actions.{actions}

@@ -4,7 +4,7 @@ use Rattle.std.proofs.lemmas.List.{take_more}
 use Rattle.std.specs.Prelude.{Option, slice_get}
 use Rattle.small_facts.proofs.Lists.{same_tail}
 use Rattle.grammar.specs.declared.symbol.Symbol.{Symbol}
-use Rattle.grammar.specs.Grammars.{Event, took, did, did_all, tokens}
+use Rattle.grammar.specs.Events.{Event, took, did, did_all, tokens}
 use Rattle.grammar.proofs.Derivations.{tokens-append, tokens-did_all}
 use Rattle.job_tokens.specs.declared.token.Token.{Token}
 use Rattle.job_tokens.specs.declared.token.Next.TheVariants
@@ -12,10 +12,11 @@ use Rattle.job_tokens.specs.Words.{kind_number}
 use Rattle.job_tokens.specs.Texts.{next_at}
 use Rattle.job_grammar.specs.declared.action.Action.{Action}
 use Rattle.job_grammar.specs.Actions.{actions}
-use Rattle.job_grammar.specs.Texts.{IsReading}
+use Rattle.job_grammar.specs.Readings.{IsReading}
 use Rattle.job_steps.specs.declared.step.Step.{Step}
 use Rattle.job_steps.specs.declared.step.Ending.{Ending}
-use Rattle.job_steps.specs.Steps.{opened, AreTokens, kinds_of, nothing_yet, last_token, with_step, steps_of, steps_at, Ends, IsRead, IsPast}
+use Rattle.job_steps.specs.Steps.{opened, AreTokens, kinds_of, nothing_yet, with_step, steps_of, Ends, IsRead}
+use Rattle.job_steps.specs.Past.{last_token, steps_at, IsPast}
 
 tokens-more : (text : List ℕ) (at depth : ℕ) (ts : List Token) (to now : ℕ) (t : Token) → AreTokens text at depth ts to now → next_at text to (nat_lt 0 now) ≡ TheVariants.Token t → AreTokens text at depth (ts ++ t ∷ []) t.end (opened now t.kind)
 tokens-more text at depth [] to now t a e = (

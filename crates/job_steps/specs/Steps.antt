@@ -1,7 +1,6 @@
 -- Which steps a text has, and how it ends.
 use Rattle.std.specs.Prelude.{◌≡◌, ℕ, ◌+◌, ◌-◌, nat_lt, List, [], ◌∷◌, ◌++◌, length, slice_get, Option, Some, None}
-use Rattle.grammar.specs.declared.symbol.Symbol.{Symbol}
-use Rattle.grammar.specs.Grammars.{Event, took, did, did_all, tokens}
+use Rattle.grammar.specs.Events.{Event, took, did, did_all, tokens}
 use Rattle.job_tokens.specs.declared.kind.Kind.{Kind}
 use Rattle.job_tokens.specs.declared.kind.Kind.TheVariants.{Newline, OpenParenthesis, CloseParenthesis, OpenBracket, CloseBracket}
 use Rattle.job_tokens.specs.declared.token.Token.{Token}
@@ -10,7 +9,7 @@ use Rattle.job_tokens.specs.Words.{kind_number}
 use Rattle.job_tokens.specs.Texts.{next_at}
 use Rattle.job_grammar.specs.declared.action.Action.{Action}
 use Rattle.job_grammar.specs.Actions.{actions}
-use Rattle.job_grammar.specs.Texts.{IsBegun, IsReading, IsWhole, AreDue, RefusesNext}
+use Rattle.job_grammar.specs.Texts.{IsBegun, IsWhole, AreDue, RefusesNext}
 use Rattle.job_steps.specs.declared.step.Step.{Step}
 use Rattle.job_steps.specs.declared.step.Ending.{Ending}
 use Rattle.job_steps.specs.declared.step.Ending.TheVariants.{Whole, Unexpected, Unfinished, NoToken}
@@ -41,10 +40,6 @@ kinds_of (t ∷ ts) = kind_number t.kind ∷ kinds_of ts
 abbrev pub nothing_yet : Token
 nothing_yet = record { kind = Newline; start = 0; end = 0 }
 
-abbrev pub last_token : Token → List Token → Token
-last_token t [] = t
-last_token t (u ∷ ts) = last_token u ts
-
 abbrev pub with_step : Option Action → Token → List Step → List Step
 with_step None t steps = steps
 with_step (Some a) t steps = record { action = a; token = t } ∷ steps
@@ -55,10 +50,6 @@ steps_of last [] ts = []
 steps_of last (did a ∷ es) ts = with_step (slice_get actions a) last (steps_of last es ts)
 steps_of last (took k ∷ es) [] = steps_of last es []
 steps_of last (took k ∷ es) (t ∷ ts) = steps_of t es ts
-
-abbrev pub steps_at : Token → List ℕ → List Step
-steps_at last [] = []
-steps_at last (a ∷ acts) = with_step (slice_get actions a) last (steps_at last acts)
 
 -- ---- the end
 
@@ -82,14 +73,3 @@ pub record IsRead (text : List ℕ) (found : Found) : Type 0 where
   pub begun : IsBegun past
   pub steps_are : found.steps ≡ steps_of nothing_yet (past ++ did_all due) toks
   pub ends : Ends text at depth_now past due found.ending
-
--- ---- while it is read
-
-pub record IsPast (text : List ℕ) (at : ℕ) (depth_now : ℕ) (last : Token) (steps : List Step) (left : List Symbol) : Type 0 where
-  pub toks : List Token
-  pub past : List Event
-  pub are_tokens : AreTokens text 0 0 toks at depth_now
-  pub kinds : tokens past ≡ kinds_of toks
-  pub last_is : last ≡ last_token nothing_yet toks
-  pub steps_are : steps ≡ steps_of nothing_yet past toks
-  pub reading : IsReading past left

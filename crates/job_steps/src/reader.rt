@@ -3,7 +3,8 @@ ghost use Rattle.std.specs.Prelude.{◌≡◌, ◌≤◌, ◌<◌, ◌+◌, ◌^
 ghost use Rattle.job_tokens.specs.declared.token.Next.TheVariants as NextVariants;
 ghost use Rattle.job_tokens.specs.Texts.{next_at};
 ghost use Rattle.job_steps.specs.declared.step.Ending.TheVariants.{Unexpected, NoToken};
-ghost use Rattle.job_steps.specs.Steps.{opened, steps_at, nothing_yet, IsPast, IsRead};
+ghost use Rattle.job_steps.specs.Steps.{opened, nothing_yet, IsRead};
+ghost use Rattle.job_steps.specs.Past.{steps_at, IsPast};
 
 use crate::step::{Ending, Step, Steps};
 use grammar::Reply;

@@ -9,7 +9,7 @@ use Rattle.std.proofs.lemmas.Slice.Eq.{bytes_eq-Decides}
 use Rattle.std.proofs.lemmas.Str.{IsUtf8-from_ascii}
 use Rattle.std.proofs.lemmas.Str.Ascii.{IsAscii-from_all}
 use Rattle.small_facts.proofs.Lists.{cons_not_nil, same_tail}
-use Rattle.grammar.specs.Grammars.{Event, took, did, did_all, tokens}
+use Rattle.grammar.specs.Events.{Event, took, did, did_all, tokens}
 use Rattle.grammar.proofs.Derivations.{tokens-append, tokens-did_all}
 use Rattle.array_expr.specs.declared.op.Op.{Op}
 use Rattle.array_expr.specs.declared.op.Op.TheVariants as OpVariants

@@ -2,7 +2,7 @@
 use Rattle.std.proofs.Common.{◌≡◌, ℕ, zero, suc, ◌+◌, Bool, true, false, cond, ◌&&◌, nat_eq, nat_lt, List, [], ◌∷◌, ◌++◌, inl, inr, refl, sym, subst, ◌∙◌, arith}
 use Rattle.std.specs.Prelude.{Option, Some, None, slice_get, slice_index_or}
 use Rattle.std.proofs.lemmas.Bool.{false≢true, and_parts, and_from, cond-true, cond-false, cond_both}
-use Rattle.grammar.specs.Grammars.{Event, took, did}
+use Rattle.grammar.specs.Events.{Event, took, did}
 use Rattle.job_grammar.specs.declared.action.Action.{Action}
 use Rattle.job_grammar.specs.declared.action.Action.TheVariants.{InputFile, AddInput, SaveFile}
 use Rattle.job_grammar.specs.Actions.{actions}

@@ -18,7 +18,8 @@ use Rattle.job_script.specs.Drafts.{Drafted, empty_draft}
 use Rattle.job_script.specs.Scripts.{first_of, refusal_at, run}
 use Rattle.job_script.proofs.Sound.{script-sound}
 use Rattle.job_text.specs.Nodes.{op_of, Builds}
-use Rattle.job_text.specs.Jobs.{Parts, spans_of, input_nodes, IsJob, FilesFit}
+use Rattle.job_text.specs.Jobs.{Parts, spans_of, IsJob}
+use Rattle.job_text.specs.Fits.{input_nodes, FilesFit}
 use Rattle.job_text.proofs.Building.{builds-count}
 use Rattle.job_text.proofs.FileNames.{AreFiles, read-files}
 

@@ -4,7 +4,8 @@ use Rattle.std.specs.Prelude.{Result, IfOk}
 use Rattle.array_expr.specs.declared.expr.Node.{Node}
 use Rattle.job_script.specs.Names.{Called}
 use Rattle.job_text.specs.declared.job.Parsed.{Parsed}
-use Rattle.job_text.specs.Jobs.{IsJob, FilesFit, input_nodes}
+use Rattle.job_text.specs.Jobs.{IsJob}
+use Rattle.job_text.specs.Fits.{FilesFit, input_nodes}
 use Rattle.job_text.specs.JobParts.{called_at, parts_of}
 use Rattle.job_text.proofs.Files.{files-fit}
 

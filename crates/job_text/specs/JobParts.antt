@@ -3,7 +3,8 @@ use Rattle.std.specs.Prelude.{ℕ, List, [], ◌∷◌, map, string_bytes}
 use Rattle.job_plan.specs.declared.job.Save.{Save}
 use Rattle.job_script.specs.Names.{Called}
 use Rattle.job_text.specs.declared.job.Parsed.{Parsed}
-use Rattle.job_text.specs.Jobs.{Parts, input_nodes}
+use Rattle.job_text.specs.Jobs.{Parts}
+use Rattle.job_text.specs.Fits.{input_nodes}
 
 -- these names with these nodes, and with 0 where there are fewer nodes
 abbrev pub called_at : List ℕ → List (List ℕ) → List Called

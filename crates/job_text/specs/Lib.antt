@@ -1,4 +1,6 @@
+pub mod Fits
 pub mod Names
+pub mod Refusals
 pub mod Texts
 pub mod Nodes
 pub mod Cursors

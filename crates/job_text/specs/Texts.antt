@@ -1,10 +1,6 @@
 -- How refusals are written, and which refusal of a job a refusal of a node or of a text's script is.
 use Rattle.std.specs.Prelude.{ℕ, List, ◌++◌, codes, decimal}
 use Rattle.nd_shape.specs.Texts.{shape_error_text, chunk_error_text}
-use Rattle.array_expr.specs.declared.error.Quantity.{Quantity as NodeQuantity}
-use Rattle.array_expr.specs.declared.error.Quantity.TheVariants as NodeQuantities
-use Rattle.array_expr.specs.declared.error.NodeError.{NodeError}
-use Rattle.array_expr.specs.declared.error.NodeError.TheVariants as NodeErrors
 use Rattle.job_script.specs.declared.asked.Why.{Why}
 use Rattle.job_script.specs.declared.asked.Why.TheVariants as Whys
 use Rattle.job_text.specs.declared.error.Quantity.{Quantity}
@@ -45,14 +41,3 @@ kind_of_why Whys.Statements = Limit Statements
 kind_of_why Whys.Nodes = Limit Nodes
 kind_of_why Whys.Depth = Limit Depth
 kind_of_why Whys.Number = Limit Number
-
-abbrev pub limit_of : NodeQuantity → Quantity
-limit_of NodeQuantities.Nodes = Nodes
-limit_of NodeQuantities.Axes = Axes
-limit_of NodeQuantities.Elements = Elements
-
-abbrev pub kind_of_node : NodeError → JobKind
-kind_of_node (NodeErrors.Shape e) = Shape e
-kind_of_node (NodeErrors.Chunks e) = Chunks e
-kind_of_node (NodeErrors.Limit quantity) = Limit (limit_of quantity)
-kind_of_node NodeErrors.OutOfMemory = OutOfMemory

@@ -1,6 +1,7 @@
 //! Why a text is no job.
 ghost use Rattle.std.specs.Prelude.{◌≡◌};
-ghost use Rattle.job_text.specs.Texts.{kind_of_why, kind_of_node, limit_of};
+ghost use Rattle.job_text.specs.Texts.{kind_of_why};
+ghost use Rattle.job_text.specs.Refusals.{kind_of_node, limit_of};
 
 use array_expr::NodeError;
 use job_script::Why;

@@ -1,6 +1,6 @@
 //! Jobs with their places in a text.
 ghost use Rattle.std.specs.Prelude.{◌≡◌, All, map, IfOk, string_bytes};
-ghost use Rattle.job_text.specs.Jobs.{FilesFit};
+ghost use Rattle.job_text.specs.Fits.{FilesFit};
 ghost use Rattle.job_text.specs.Names.{IsFileName};
 ghost use Rattle.job_text.specs.JobParts.{parts_of, save_called};
 

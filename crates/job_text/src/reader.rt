@@ -1,7 +1,8 @@
 //! The reader of jobs.
 ghost use Rattle.std.specs.Prelude.{◌≡◌, IfOk, IfErr};
 ghost use Rattle.job_text.specs.Texts.{kind_of_why};
-ghost use Rattle.job_text.specs.Jobs.{IsShort, StandsAt, IsJob, FilesFit, IsRefused};
+ghost use Rattle.job_text.specs.Jobs.{IsShort, StandsAt, IsJob, IsRefused};
+ghost use Rattle.job_text.specs.Fits.{FilesFit};
 ghost use Rattle.job_text.specs.JobParts.{parts_of};
 
 use crate::builder::{build, span_at};

@@ -28,7 +28,8 @@ use Rattle.cluster_rules.specs.World.{Job, World, Parcel, opening, open_ask, par
 use Rattle.cluster_rules.specs.WorldStep.{scheduled, worked, client_worked, at_client, take_down_first, take_up, take_up_first, take_to_client, take_from_client, gathered_at, serve, take_answer, fail_ask, world_step}
 use Rattle.safety_laws.proofs.Lively.{same_asker_is}
 use Rattle.journal_audit.specs.Audits.{events_of, IsLegalJournal}
-use Rattle.journal_audit.specs.Clients.{Gets, GetsFrom, is_client, is_own, own_entries, told_client, client_after, client_run}
+use Rattle.journal_audit.specs.Clients.{is_client, is_own, own_entries, told_client, client_after, client_run}
+use Rattle.journal_audit.specs.Got.{Gets, GetsFrom}
 use Rattle.journal_audit.specs.Reports.{taken_of}
 
 -- ## One event

@@ -1,5 +1,5 @@
 -- What a list of events is for one client: the entries of its own, and what it got.
-use Rattle.std.specs.Prelude.{◌≡◌, ℕ, ◌==◌, Bool, true, false, List, [], ◌∷◌, ◌++◌, Option, Some, None, filter}
+use Rattle.std.specs.Prelude.{ℕ, ◌==◌, Bool, false, List, [], ◌∷◌, Option, Some, None, filter}
 use Rattle.std.specs.Option.{option_map}
 use Rattle.cluster_msgs.specs.declared.messages.Message.{Message}
 use Rattle.cluster_msgs.specs.declared.messages.Message.TheVariants.{ToClient, Peer}
@@ -13,19 +13,6 @@ use Rattle.cluster_msgs.specs.declared.events.Event.{Event}
 use Rattle.cluster_msgs.specs.declared.events.Event.TheVariants.{Want, Release, DeliverToClient, SendGather, ArriveGather, FailGather}
 use Rattle.cluster_rules.specs.Client.{ClientFacts, client_step}
 use Rattle.cluster_rules.specs.Worker.{ask_to}
-use Rattle.cluster_rules.specs.Runs.{run_from}
-use Rattle.cluster_rules.specs.World.{Job, World, opening}
-
--- after some front of these events from a world on, the client had the key's block
-pub record GetsFrom (j : Job) (w : World) (es : List Event) (c k : ℕ) : Type 0 where
-  pub before : List Event
-  pub after : List Event
-  pub whole : es ≡ before ++ after
-  pub got : ((run_from j w before).clients c).got k ≡ true
-
--- in the course of these events from the opening on, the client got the key's block
-abbrev pub Gets : Job → List Event → ℕ → ℕ → Type 0
-Gets j es c k = GetsFrom j (opening j) es c k
 
 -- ## A client by itself
 

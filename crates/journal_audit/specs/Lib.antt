@@ -1,5 +1,6 @@
 pub mod Audits
 pub mod Clients
+pub mod Got
 pub mod Merges
 pub mod Replays
 pub mod Reports

@@ -11,7 +11,8 @@ ghost use Rattle.cluster_rules.specs.Sched.{Setting};
 ghost use Rattle.cluster_rules.specs.World.{Job};
 ghost use Rattle.cluster_laws.specs.Blocks.{job_of};
 ghost use Rattle.journal_audit.specs.Audits.{IsLegalJournal, events_of};
-ghost use Rattle.journal_audit.specs.Clients.{Gets, client_run, own_entries};
+ghost use Rattle.journal_audit.specs.Clients.{client_run, own_entries};
+ghost use Rattle.journal_audit.specs.Got.{Gets};
 ghost use Rattle.journal_audit.specs.Shapes.{HasNoFault, shape_job};
 ghost use Rattle.journal_audit.specs.Merges.{IsMerge};
 

@@ -24,7 +24,7 @@ use Rattle.task_graph.specs.declared.graph.Task.{Task}
 use Rattle.lowering_laws.specs.Sources.{Source, Made, one_each, placed, rechunk_task, rechunked, same_layout, fitted}
 use Rattle.lowering_laws.specs.Stages.{Arg, Literal, Blocks, Point, Pair, Choice, arg_layout, arg_target, fitted_args, point_layout, point_task, pointwise, Along, along_all, or_empty, common_layout, fitted_along, joined_task, concatenated_blocks, no_source, paired_sizes, with_sizes, kept_axes, partial_task, product_task, contracted_blocks}
 use Rattle.lowering_laws.specs.Lowered.{source_at, arg_of, lower_op}
-use Rattle.lowering_laws.specs.Faults.{IsCovered}
+use Rattle.lowering_laws.specs.FaultLaws.{IsCovered}
 use Rattle.lowering_laws.proofs.Pieces.{parts-any}
 use Rattle.lowering_laws.proofs.Cutting.{lengths-normalized}
 use Rattle.lowering_laws.proofs.MadeTasks.{all-of, all-folded}

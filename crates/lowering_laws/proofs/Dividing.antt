@@ -30,7 +30,7 @@ use Rattle.lowering_laws.specs.Stages.{no_source}
 use Rattle.lowering_laws.specs.Lowered.{no_node, source_at, arg_of, lower_op, Lowering, with_made, lower_from, lowering}
 use Rattle.lowering_laws.specs.Law.{Stand}
 use Rattle.lowering_laws.specs.Built.{AreBuilt}
-use Rattle.lowering_laws.specs.Faults.{is_division}
+use Rattle.lowering_laws.specs.FaultLaws.{is_division}
 use Rattle.lowering_laws.proofs.Carrying.{Fits, Holds-same}
 use Rattle.lowering_laws.proofs.Pointwise.{HasOperands, fits-pair, there-pair}
 use Rattle.lowering_laws.proofs.Lowering.{IsHeld, AllHeld, node-held, shape-is, shape-front, arg-carries, lower-extends, Stand-here, drop-head, drop-none}

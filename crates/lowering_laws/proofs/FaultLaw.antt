@@ -30,7 +30,8 @@ use Rattle.lowering_laws.specs.Lowered.{no_node, source_at, lowering, lowered}
 use Rattle.lowering_laws.specs.Built.{AreBuilt}
 use Rattle.lowering_laws.specs.Whole.{LawOfOrder}
 use Rattle.lowering_laws.specs.Named.{box_of}
-use Rattle.lowering_laws.specs.Faults.{is_division, IsCovered, IsMissing, IsFault, IsDivide, LawOfFaults}
+use Rattle.lowering_laws.specs.Faults.{IsMissing, IsDivide}
+use Rattle.lowering_laws.specs.FaultLaws.{is_division, IsCovered, IsFault, LawOfFaults}
 use Rattle.task_graph.specs.Numberings.{AreFit, IsNumbering, PlacesFit}
 use Rattle.task_graph.proofs.Keys.{ascending-has}
 use Rattle.task_graph.proofs.Visits.{numbering}

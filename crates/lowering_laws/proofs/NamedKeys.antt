@@ -16,7 +16,7 @@ use Rattle.task_graph.specs.Graphs.{task_at, no_task}
 use Rattle.lowering_laws.specs.Sources.{Source, Made, key_of}
 use Rattle.lowering_laws.specs.Stages.{no_source}
 use Rattle.lowering_laws.specs.Lowered.{source_at, lower_op, name_at, Lowering, with_made, lower_from, lowering}
-use Rattle.lowering_laws.specs.Faults.{is_division}
+use Rattle.lowering_laws.specs.FaultLaws.{is_division}
 use Rattle.lowering_laws.proofs.Lowering.{drop-head, drop-none}
 use Rattle.lowering_laws.proofs.Good.{IsMade, none-good}
 use Rattle.lowering_laws.proofs.Order.{IsInOrder, op-made, one-node}

@@ -15,7 +15,8 @@ use Rattle.lowering_laws.specs.Sources.{key_of}
 use Rattle.lowering_laws.specs.Lowered.{source_at, lowering, lowered, keys_of}
 use Rattle.lowering_laws.specs.Built.{AreBuilt}
 use Rattle.lowering_laws.specs.Whole.{IsSound, LawOfOrder}
-use Rattle.lowering_laws.specs.Named.{layout_of, name_of, LawOfNames, LawOfNamed}
+use Rattle.lowering_laws.specs.Named.{layout_of, name_of}
+use Rattle.lowering_laws.specs.NameLaws.{LawOfNames, LawOfNamed}
 use Rattle.task_graph.specs.Numberings.{IsNumbering}
 use Rattle.task_graph.proofs.Visits.{numbering}
 use Rattle.lowering_laws.proofs.Fed.{dims_at}

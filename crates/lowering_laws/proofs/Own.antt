@@ -27,7 +27,8 @@ use Rattle.task_graph.specs.Graphs.{task, task_at, no_task}
 use Rattle.lowering_laws.specs.Sources.{Source, Made, key_of, key_at, one_each, rechunk_task, fitted}
 use Rattle.lowering_laws.specs.Stages.{Arg, Literal, Point, Pair, Choice, arg_layout, fitted_args, point_layout, point_task, pointwise, after, Along, along_all, or_empty, common_layout, fitted_along, joined_task, concatenated_blocks, folded_tasks, folded_each, tree_count, paired_sizes, with_sizes, kept_axes, slice_task, turned_layout, partial_task, product_task, product_blocks, contracted_blocks}
 use Rattle.lowering_laws.specs.Lowered.{source_at, arg_of, lower_op}
-use Rattle.lowering_laws.specs.Faults.{divides, is_division}
+use Rattle.lowering_laws.specs.Faults.{divides}
+use Rattle.lowering_laws.specs.FaultLaws.{is_division}
 use Rattle.lowering_laws.proofs.MadeTasks.{all-of, all-fitted, all-args, all-along, all-folded}
 use Rattle.lowering_laws.proofs.Reductions.{length-folded, length-strides}
 

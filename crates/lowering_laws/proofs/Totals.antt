@@ -23,7 +23,8 @@ use Rattle.block_kernels.specs.declared.spec.Spec.TheVariants.{Elementwise, Wher
 use Rattle.block_kernels.specs.Kernels.{kernel, if_ok, nth, no_grid, operand, in_pieces, is_within, counted, elements_at}
 use Rattle.task_graph.proofs.Making.{no_array}
 use Rattle.task_graph.specs.Numberings.{OperandFits, PlacesFit}
-use Rattle.lowering_laws.specs.Faults.{divides, is_division, IsCovered}
+use Rattle.lowering_laws.specs.Faults.{divides}
+use Rattle.lowering_laws.specs.FaultLaws.{is_division, IsCovered}
 
 -- ---- a grid that is no block
 

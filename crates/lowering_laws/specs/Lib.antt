@@ -1,3 +1,5 @@
+pub mod FaultLaws
+pub mod NameLaws
 pub mod Sources
 pub mod Stages
 pub mod Lowered

@@ -1,15 +1,9 @@
 -- What the names of keys say.
-use Rattle.std.specs.Prelude.{◌≡◌, ℕ, ℤ, ◌<◌, List, [], length, get_or, Option, Some, None, slice_index_or}
-use Rattle.nd_shape.specs.Block.{Array}
+use Rattle.std.specs.Prelude.{ℕ, List, Option, None, slice_index_or}
 use Rattle.nd_shape.specs.Region.{Box}
-use Rattle.nd_grid.specs.Grid.{Holds, grid_of}
 use Rattle.array_expr.specs.declared.expr.Node.{Node}
-use Rattle.expr_laws.specs.Formulas.{whole}
-use Rattle.chunk_layout.specs.Layouts.{blocks, region}
-use Rattle.block_kernels.specs.Kernels.{result_shape}
-use Rattle.task_graph.specs.Graphs.{task_at, value}
+use Rattle.chunk_layout.specs.Layouts.{region}
 use Rattle.lowering_laws.specs.Lowered.{source_at, lowering, lowered}
-use Rattle.lowering_laws.specs.Whole.{IsSound, saved_key}
 
 -- the layout of node n, and the box of its block c
 abbrev pub layout_of : List Node → ℕ → List (List ℕ)
@@ -21,27 +15,3 @@ box_of nodes n c = region (layout_of nodes n) c
 -- the node and the block of which a key of the graph that is run is the own block
 abbrev pub name_of : List Node → List ℕ → ℕ → Option (ℕ × ℕ)
 name_of nodes saves k = slice_index_or (lowered nodes saves).names k None
-
--- a name is that of a node and a block of it, and the key makes that block's lengths
-pub record IsName (nodes : List Node) (saves : List ℕ) (k n c : ℕ) : Type 0 where
-  pub node : n < length nodes
-  pub block : c < blocks (layout_of nodes n)
-  pub lengths : result_shape (task_at (lowered nodes saves).tasks k).spec ≡ (box_of nodes n c).lengths
-
--- One name a key; no name stands twice; the key of each saved block has its node's and the block's number, and the saved keys
--- of a node are those of its blocks, in row-major order.
-pub record LawOfNames (nodes : List Node) (saves : List ℕ) : Type 0 where
-  pub number : length (lowered nodes saves).names ≡ length (lowered nodes saves).tasks
-  pub each : (k n c : ℕ) → k < length (lowered nodes saves).tasks → name_of nodes saves k ≡ Some (n, c) → IsName nodes saves k n c
-  pub once : (j k n c : ℕ) → j < length (lowered nodes saves).tasks → k < length (lowered nodes saves).tasks
-      → name_of nodes saves j ≡ Some (n, c) → name_of nodes saves k ≡ Some (n, c) → j ≡ k
-  pub saves_are : length (lowered nodes saves).saved ≡ length saves
-  pub blocks_are : (j : ℕ) → j < length saves → length (get_or (lowered nodes saves).saved j []) ≡ blocks (layout_of nodes (get_or saves j 0))
-  pub saved : (j c : ℕ) → j < length saves → c < blocks (layout_of nodes (get_or saves j 0))
-      → name_of nodes saves (saved_key nodes saves j c) ≡ Some (get_or saves j 0, c)
-
--- Each key with a name, where no key of its cone is faulty, has a value, which holds the node's elements in the block's box.
-abbrev pub LawOfNamed : (ℕ → List ℕ → ℤ) → List Node → List ℕ → Type 0
-LawOfNamed files nodes saves =
-    (k n c : ℕ) → k < length (lowered nodes saves).tasks → name_of nodes saves k ≡ Some (n, c) → IsSound files (lowered nodes saves).tasks k
-    → (b : Array) × (value files (lowered nodes saves).tasks k ≡ Some b) × Holds (grid_of b) (whole files nodes n) (box_of nodes n c)

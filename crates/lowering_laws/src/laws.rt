@@ -9,8 +9,8 @@ ghost use Rattle.lowering_laws.specs.Built.{AreBuilt};
 ghost use Rattle.lowering_laws.specs.Each.{OfEachJob, OfEachRun};
 ghost use Rattle.lowering_laws.specs.Lowered.{lowered, limit_of};
 ghost use Rattle.lowering_laws.specs.Whole.{LawOfOrder, LawOfLowering, LawOfLowered};
-ghost use Rattle.lowering_laws.specs.Named.{LawOfNames, LawOfNamed};
-ghost use Rattle.lowering_laws.specs.Faults.{LawOfFaults};
+ghost use Rattle.lowering_laws.specs.NameLaws.{LawOfNames, LawOfNamed};
+ghost use Rattle.lowering_laws.specs.FaultLaws.{LawOfFaults};
 ghost use Rattle.lowering_laws.specs.Formed.{LawOfForm};
 ghost use Rattle.lowering_laws.specs.Growth.{LawOfGrowth, LawOfRefusal};
 

@@ -2,8 +2,8 @@
 ghost use Rattle.std.specs.Prelude.{ℕ, ℤ, ◌<◌, List, length, All};
 ghost use Rattle.lowering_laws.specs.Built.{IsBuilt, AreBuilt};
 ghost use Rattle.lowering_laws.specs.Whole.{LawOfLowered};
-ghost use Rattle.lowering_laws.specs.Named.{LawOfNamed};
-ghost use Rattle.lowering_laws.specs.Faults.{LawOfFaults};
+ghost use Rattle.lowering_laws.specs.NameLaws.{LawOfNamed};
+ghost use Rattle.lowering_laws.specs.FaultLaws.{LawOfFaults};
 
 use crate::laws::{law_of_faults, law_of_lowered};
 use array_expr::{Expr, Node, Op};

@@ -4,7 +4,8 @@ use Rattle.nd_shape.specs.Shape.{elements}
 use Rattle.nd_shape.specs.Index.{IsIn, place, index_at}
 use Rattle.nd_shape.specs.Region.{moved}
 use Rattle.nd_shape.proofs.Places.{index_at-place, place-index_at, index_at-in, IsIn-length}
-use Rattle.nd_rows.specs.Storage.{column_place, last_index}
+use Rattle.nd_rows.specs.Storage.{last_index}
+use Rattle.nd_rows.specs.Places.{column_place}
 use Rattle.nd_shape.proofs.Elements.{elements-push}
 
 pub place-snoc : (ns is : List ℕ) (n i : ℕ) → length is ≡ length ns → place (ns ++ n ∷ []) (is ++ i ∷ []) ≡ place ns is * n + i

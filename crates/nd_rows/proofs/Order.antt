@@ -9,7 +9,8 @@ use Rattle.nd_shape.specs.Shape.{elements}
 use Rattle.nd_shape.specs.Index.{IsIn, place, index_at}
 use Rattle.nd_shape.specs.Region.{Box, IsPart, moved}
 use Rattle.nd_shape.proofs.Places.{place-below, index_at-in, index_at-place, place-index_at, IsIn-length}
-use Rattle.nd_rows.specs.Storage.{Walk, spot, count_of, walk_of, stored, place_by, column_place, last_index, target}
+use Rattle.nd_rows.specs.Storage.{Walk, spot, count_of, walk_of, stored, last_index, target}
+use Rattle.nd_rows.specs.Places.{place_by, column_place}
 use Rattle.nd_rows.proofs.Spots.{walk, moved-in}
 use Rattle.nd_rows.proofs.Ends.{length-moved}
 use Rattle.nd_rows.proofs.Turns.{column_place-below}

@@ -5,7 +5,8 @@ use Rattle.std.proofs.lemmas.List.{reverse-append, length-reverse, get_or-revers
 use Rattle.nd_shape.specs.Shape.{elements, IsShape}
 use Rattle.nd_shape.specs.Index.{IsIn, place}
 use Rattle.nd_shape.specs.Region.{IsPart, moved}
-use Rattle.nd_rows.specs.Storage.{column_place, last_index}
+use Rattle.nd_rows.specs.Storage.{last_index}
+use Rattle.nd_rows.specs.Places.{column_place}
 use Rattle.nd_rows.proofs.Ends.{place-snoc, moved-snoc, IsIn-snoc, last_index-snoc}
 use Rattle.nd_shape.proofs.Elements.{elements-push}
 

@@ -8,7 +8,8 @@ use Rattle.small_facts.proofs.Numbers.{below_product_right}
 use Rattle.nd_shape.specs.Shape.{elements}
 use Rattle.nd_shape.specs.Index.{IsIn, index_at}
 use Rattle.nd_shape.proofs.Places.{index_at-in, IsIn-length, place-below}
-use Rattle.nd_rows.specs.Storage.{column_place, from_column}
+use Rattle.nd_rows.specs.Storage.{from_column}
+use Rattle.nd_rows.specs.Places.{column_place}
 use Rattle.nd_rows.proofs.Ends.{index_at-snoc, column_place-snoc}
 use Rattle.nd_rows.proofs.Turned.{place-reverse, elements-reverse, IsIn-reverse}
 use borrow.Rule.Slice.PartMut.{put_mid, post_of}

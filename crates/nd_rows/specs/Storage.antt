@@ -3,17 +3,7 @@ use Rattle.std.specs.Prelude.{◌≡◌, ◌≢◌, ◌<◌, ◌+◌, ◌-◌, �
 use Rattle.nd_shape.specs.Shape.{elements}
 use Rattle.nd_shape.specs.Index.{place, index_at}
 use Rattle.nd_shape.specs.Region.{Box, moved}
-
--- the place of an index in column-major order: the first coordinate goes fastest
-abbrev pub column_place : List ℕ → List ℕ → ℕ
-column_place [] is = 0
-column_place (n ∷ ns) [] = 0
-column_place (n ∷ ns) (i ∷ is) = i + n * column_place ns is
-
--- the place of an index, in column-major order where the first argument says so
-abbrev pub place_by : Bool → List ℕ → List ℕ → ℕ
-place_by false dims i = place dims i
-place_by true dims i = column_place dims i
+use Rattle.nd_rows.specs.Places.{column_place}
 
 -- what belongs to the axes, with the axes in the order of storage: the slowest first
 abbrev pub stored : Bool → List ℕ → List ℕ

@@ -2,7 +2,8 @@
 ghost use Rattle.std.specs.Prelude.{◌≡◌, ◌≤◌, ◌<◌, ◌+◌, ◌-◌, ◌*◌, ◌^◌, ℕ, length, reverse, get_or, slice_index_or, pos, IfOk};
 ghost use Rattle.nd_shape.specs.Shape.{elements};
 ghost use Rattle.nd_shape.specs.Index.{index_at, place};
-ghost use Rattle.nd_rows.specs.Storage.{column_place, from_column};
+ghost use Rattle.nd_rows.specs.Storage.{from_column};
+ghost use Rattle.nd_rows.specs.Places.{column_place};
 
 use crate::walk::stored_dims;
 use nd_shape::{Shape, ravel, unravel};

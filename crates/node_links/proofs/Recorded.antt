@@ -7,7 +7,8 @@ use Rattle.cluster_msgs.specs.declared.events.Event.{Event}
 use Rattle.cluster_msgs.specs.declared.messages.Message.{Message}
 use Rattle.turn_cell.specs.Histories.{Ascending}
 use Rattle.turn_cell.specs.Turns.{Went}
-use Rattle.node_links.specs.Books.{BookState, Logged, IsPushed, IsStored, IsLeftOut, IsLater, IsRecorded, IsEntered, IsNext, IsRuled, Steps, StepsBy}
+use Rattle.node_links.specs.Books.{Steps, StepsBy}
+use Rattle.node_links.specs.Entering.{BookState, Logged, IsPushed, IsStored, IsLeftOut, IsLater, IsRecorded, IsEntered, IsNext, IsRuled}
 
 -- what is stored leads to the core as it is until an entry is left out, and from then on to the same as before
 pub record Follows {C : Type 0} (x y : BookState C) : Type 0 where

@@ -1,7 +1,8 @@
 use Rattle.std.proofs.Common.{◌≡◌, ℕ, ◌+◌, ◌<◌, ◌≤◌, List, [], ◌∷◌, ◌++◌, Option, None, arith, sym, subst}
 use Rattle.cluster_msgs.specs.declared.events.Entry.{Entry}
 use Rattle.turn_cell.specs.Histories.{Ascending, AllAbove}
-use Rattle.node_links.specs.Books.{AllBelow, AllUpTo, IsPast, IsWithin, history_bytes, entry_bytes}
+use Rattle.node_links.specs.Books.{IsPast, IsWithin, history_bytes, entry_bytes}
+use Rattle.node_links.specs.Entering.{AllBelow, AllUpTo}
 
 above_snoc : (n : ℕ) (es : List Entry) (e : Entry) → AllAbove n es → n < e.stamp → AllAbove n (es ++ e ∷ [])
 above_snoc n [] e a b = (b, tt)

@@ -1,3 +1,4 @@
+pub mod Entering
 pub mod Links
 pub mod Books
 pub mod Fits

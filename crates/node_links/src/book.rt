@@ -1,6 +1,6 @@
 //! A core with its history.
 ghost use Rattle.std.specs.Prelude.{◌≡◌, ◌+◌, ◌^◌, ◌≤◌, Option, OnOk, OnErr, IfOk, IfErr, IfSome, is_some, Err, Some, None, [], true, false, cond, length};
-ghost use Rattle.node_links.specs.Books.{IsLogOf, IsRecorded, IsEntered, AllBelow};
+ghost use Rattle.node_links.specs.Entering.{IsLogOf, IsRecorded, IsEntered, AllBelow};
 ghost use Rattle.node_links.specs.Books.{Steps, StepsBy};
 
 use crate::log::Log;
@@ -55,7 +55,8 @@ pub struct Book<C: Machine> {
 
 impl<C: Machine> Model for Book<C> {
     ghost use Rattle.std.specs.Prelude.{cond, is_some};
-    ghost use Rattle.node_links.specs.Books.{BookState, IsRuled, Steps};
+    ghost use Rattle.node_links.specs.Books.{Steps};
+    ghost use Rattle.node_links.specs.Entering.{BookState, IsRuled};
 
     ghost Value = { BookState C };
 

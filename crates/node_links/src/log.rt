@@ -1,7 +1,8 @@
 //! The entries of a node.
 ghost use Rattle.std.specs.Prelude.{◌≡◌, ◌<◌, ◌≤◌, ◌+◌, ◌*◌, ◌^◌, [], true, length, IfOk, OnOk, None, Some, is_some};
 ghost use Rattle.turn_cell.specs.Histories.{Ascending};
-ghost use Rattle.node_links.specs.Books.{AllBelow, IsPushed, IsStored, IsLeftOut, IsWithin, history_bytes, entry_bytes, members};
+ghost use Rattle.node_links.specs.Books.{IsWithin, history_bytes, entry_bytes, members};
+ghost use Rattle.node_links.specs.Entering.{AllBelow, IsPushed, IsStored, IsLeftOut};
 
 use cluster_msgs::{Down, Entry, FromClient, History, Message, Peer, Sequence, ToClient, Up};
 use std::alloc::{AllocError, Global};
@@ -23,7 +24,8 @@ impl Model for Log {
     ghost use Rattle.std.specs.Prelude.{◌≡◌, ◌≤◌};
     ghost use Rattle.std.specs.Vec.{vec_capacity};
     ghost use Rattle.turn_cell.specs.Histories.{Ascending};
-    ghost use Rattle.node_links.specs.Books.{Logged, AllUpTo, IsPast, history_bytes};
+    ghost use Rattle.node_links.specs.Books.{IsPast, history_bytes};
+    ghost use Rattle.node_links.specs.Entering.{Logged, AllUpTo};
 
     ghost Value = { Logged };
 

@@ -11,14 +11,14 @@ use Rattle.cluster_rules.specs.Worker.{WorkerFacts}
 use Rattle.cluster_rules.specs.Client.{ClientFacts}
 use Rattle.scheduler_core.specs.Cores.{facts}
 use Rattle.turn_cell.specs.Histories.{Replays}
-use Rattle.node_links.specs.Books.{BookState}
+use Rattle.node_links.specs.Entering.{BookState}
 use Rattle.driver_rows.specs.Closing.{AreClosed}
 use Rattle.node_states.specs.Fitting.{ClientFits}
 use Rattle.node_states.specs.Machines.{SchedState}
 use Rattle.node_runner.specs.declared.plan.RunPlan.{RunPlan}
 use Rattle.node_runner.specs.Making.{AreMade, HasClosed}
-use Rattle.node_runner.specs.Runs.{IsFirstScheduler, IsFirstWorker, IsFirstClient, IsSchedulersBook, IsWorkersBook, IsClientsBook, SchedSteps, WorkerSteps, ClientSteps, course_of, setting_of}
-use Rattle.node_runner.specs.Runs.{SchedCoreSteps, WorkerCoreSteps, ClientCoreSteps}
+use Rattle.node_runner.specs.Runs.{SchedSteps, WorkerSteps, ClientSteps, course_of, setting_of}
+use Rattle.node_runner.specs.Books.{IsFirstScheduler, IsFirstWorker, IsFirstClient, IsSchedulersBook, IsWorkersBook, IsClientsBook, SchedCoreSteps, WorkerCoreSteps, ClientCoreSteps}
 use Rattle.node_runner.proofs.NodeHistories.{sched_replays, worker_replays, client_replays}
 
 pub has_closed : {S C : Type 0} (entries : S → List Entry) (core : S → C) (cut : S → Bool) (steps : C → Entry → C → Type 0) (fits : S → Type 0)

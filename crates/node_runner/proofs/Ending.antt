@@ -12,8 +12,9 @@ use Rattle.cluster_rules.specs.Worker.{WorkerFacts, new_worker}
 use Rattle.cluster_rules.specs.Client.{ClientFacts, new_client}
 use Rattle.scheduler_core.specs.Cores.{facts}
 use Rattle.turn_cell.specs.Histories.{Ascending, Replays}
-use Rattle.turn_cell.specs.Rows.{AllBy}
-use Rattle.node_links.specs.Books.{BookState, Logged, IsLogOf, IsNext, IsWithin, history_bytes}
+use Rattle.turn_cell.specs.Lists.{AllBy}
+use Rattle.node_links.specs.Books.{IsWithin, history_bytes}
+use Rattle.node_links.specs.Entering.{BookState, Logged, IsLogOf, IsNext}
 use Rattle.node_states.specs.Machines.{SchedState, scheduler_bytes, node_bytes}
 use Rattle.node_states.specs.Order.{AreInTime, start_of}
 use Rattle.node_states.specs.declared.why.Why.{Why}
@@ -24,9 +25,13 @@ use Rattle.node_runner.specs.declared.ends.Failure.{Failure}
 use Rattle.node_runner.specs.declared.ends.Doubt.{Doubt}
 use Rattle.node_runner.specs.declared.ends.Doubt.TheVariants as doubt
 use Rattle.node_runner.specs.declared.ends.Histories.{Histories}
-use Rattle.node_runner.specs.Runs.{IsBookOf, IsTakenFrom, IsFromScheduler, IsFromWorker, IsFromClient, IsHistory, IsNextStep, IsSchedulersBook, IsWorkersBook, IsClientsBook}
-use Rattle.node_runner.specs.Runs.{WorkerSteps, ClientSteps, SchedSteps, WorkerCoreSteps, ClientCoreSteps, SchedCoreSteps}
-use Rattle.node_runner.specs.Runs.{AreWhole, IsSpent, last_facts, IsDoubt, IsDoubtBy, IsFailure, IsGivenUp, IsRow, HasCause, HasGot, IfStatus, IsBlamed, HasRun, course_of, setting_of}
+use Rattle.node_runner.specs.Books.{IsBookOf, IsTakenFrom, IsFromScheduler, IsFromWorker, IsFromClient, IsSchedulersBook, IsWorkersBook, IsClientsBook}
+use Rattle.node_runner.specs.Runs.{IsHistory, IsNextStep}
+use Rattle.node_runner.specs.Runs.{WorkerSteps, ClientSteps, SchedSteps}
+use Rattle.node_runner.specs.Books.{WorkerCoreSteps, ClientCoreSteps, SchedCoreSteps}
+use Rattle.node_runner.specs.Runs.{AreWhole, HasGot, course_of, setting_of}
+use Rattle.node_runner.specs.Outcomes.{IsRow}
+use Rattle.node_runner.specs.Outcomes.{IsSpent, last_facts, IsDoubt, IsDoubtBy, IsFailure, IsGivenUp, HasCause, IfStatus, IsBlamed, HasRun}
 use Rattle.node_runner.proofs.Places.{all_by_through}
 use Rattle.node_runner.proofs.Replaying.{replays_on}
 

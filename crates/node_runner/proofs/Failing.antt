@@ -6,7 +6,7 @@ use Rattle.cluster_rules.specs.Sched.{Facts}
 use Rattle.scheduler_core.specs.Killed.{IsKilled as HasLost}
 use Rattle.node_runner.specs.declared.plan.RunPlan.{RunPlan}
 use Rattle.node_runner.specs.declared.ends.Failure.TheVariants.{Zero, Killed}
-use Rattle.node_runner.specs.Runs.{HasBlame, HasFailed, IsFailure}
+use Rattle.node_runner.specs.Outcomes.{HasBlame, HasFailed, IsFailure}
 
 -- the blame of a key, without its cause
 failed_by : {B : Type 0} (l : LabelFacts B) (wanted : List ℕ) (blame : ℕ) → HasBlame l wanted blame → HasFailed l wanted blame

@@ -14,7 +14,9 @@ use Rattle.node_runner.specs.declared.ends.RunStatus.{RunStatus}
 use Rattle.node_runner.specs.declared.ends.RunStatus.TheVariants.{Zero, Killed, Read, Events, Memory}
 use Rattle.node_runner.specs.declared.ends.Doubt.{Doubt}
 use Rattle.node_runner.specs.declared.ends.Histories.{Histories}
-use Rattle.node_runner.specs.Runs.{AreBacked, AreLeft, AreWhole, IsRow, feed_rows, without_feed, without_rows, LastFacts, HasCause, HasGot, IfStatus, IsDecided, IsDoubt, HasRun, HasNotRun, HowItEnded}
+use Rattle.node_runner.specs.Runs.{AreWhole, LastFacts, HasGot}
+use Rattle.node_runner.specs.Outcomes.{AreBacked, IsRow, feed_rows, without_feed, without_rows}
+use Rattle.node_runner.specs.Outcomes.{AreLeft, HasCause, IfStatus, IsDecided, IsDoubt, HasRun, HasNotRun, HowItEnded}
 
 -- a run that ended where this may have failed, ended where more may have
 cause_of_more : {A B : Type 0} (l : LabelFacts B) (p : RunPlan) (wanted : List ℕ) (f : Facts) (left : List (Option Why)) (F G Cut : Type 0) (r : Result A RunStatus) → (F → G)

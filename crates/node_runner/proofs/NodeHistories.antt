@@ -10,7 +10,8 @@ use Rattle.turn_cell.specs.Histories.{Replays}
 use Rattle.node_states.specs.Fitting.{SchedEventFits, WorkerEventFits, ClientEventFits}
 use Rattle.node_states.specs.Machines.{SchedSays, SchedBy, SchedState, WorkerSays, WorkerBy, ClientSays, ClientBy}
 use Rattle.node_states.specs.declared.choice.Plan.{Plan}
-use Rattle.node_runner.specs.Runs.{SchedSteps, WorkerSteps, ClientSteps, SchedCoreSteps, WorkerCoreSteps, ClientCoreSteps}
+use Rattle.node_runner.specs.Runs.{SchedSteps, WorkerSteps, ClientSteps}
+use Rattle.node_runner.specs.Books.{SchedCoreSteps, WorkerCoreSteps, ClientCoreSteps}
 use Rattle.node_runner.proofs.Replaying.{replays_of}
 
 -- the scheduler: what its node goes by, and the setting, stay

@@ -4,7 +4,7 @@ use Rattle.std.specs.Prelude.{IfSome}
 use Rattle.std.proofs.lemmas.List.{length-map, get_or-map, length-append, length-take, take_more, get_or_append_left, get_or_push}
 use mathlib.Core.Logic.{dite}
 use native.Mathlib.Decide.{ℕ_discrete}
-use Rattle.turn_cell.specs.Rows.{AllBy}
+use Rattle.turn_cell.specs.Lists.{AllBy}
 
 -- one more in both lists
 pub all_by_pushed : {A B : Type 0} (R : ℕ → A → B → Type 0) (xs : List A) (ys : List B) (x : A) (y : B) → AllBy R xs ys → R (length xs) x y → AllBy R (xs ++ x ∷ []) (ys ++ y ∷ [])

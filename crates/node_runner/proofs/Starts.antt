@@ -6,7 +6,8 @@ use Rattle.cluster_rules.specs.Sched.{Facts, Setting, sched_opening}
 use Rattle.scheduler_core.specs.Cores.{Core, facts}
 use Rattle.node_states.specs.Machines.{SchedState}
 use Rattle.node_states.specs.Opening.{IsOpening}
-use Rattle.node_runner.specs.Runs.{IsFirstScheduler, setting_of, course_of}
+use Rattle.node_runner.specs.Runs.{setting_of, course_of}
+use Rattle.node_runner.specs.Books.{IsFirstScheduler}
 use Rattle.node_runner.specs.declared.plan.RunPlan.{RunPlan}
 
 pub opening_of : (f : Facts) (s : Setting) → f ≡ sched_opening s → IsOpening f

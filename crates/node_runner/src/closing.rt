@@ -5,7 +5,8 @@ ghost use Rattle.gather_client.specs.CoreState.{client_facts};
 ghost use Rattle.scheduler_core.specs.Cores.{facts};
 ghost use Rattle.worker_core.specs.Core.{facts as worker_facts};
 ghost use Rattle.node_states.specs.Order.{AreInTime, start_of};
-ghost use Rattle.node_runner.specs.Runs.{HasRun, HasNotRun, IsDoubt, IsDoubtBy, IsGivenUp, IsFromScheduler, IsFromClient, IsSchedulersBook, IsWorkersBook, IsClientsBook, IfStatus, IsBlamed, IsSpent, last_facts};
+ghost use Rattle.node_runner.specs.Outcomes.{HasRun, HasNotRun, IsDoubt, IsDoubtBy, IsGivenUp, IfStatus, IsBlamed, IsSpent, last_facts};
+ghost use Rattle.node_runner.specs.Books.{IsFromScheduler, IsFromClient, IsSchedulersBook, IsWorkersBook, IsClientsBook};
 
 use crate::ends::{
     Doubt, Ends, Failure, Histories, RunStatus, all_left, any_spent, first_failure, hand_all,

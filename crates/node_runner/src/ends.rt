@@ -4,12 +4,15 @@ ghost use Rattle.cluster_rules.specs.Sched.{Facts as SchedFacts};
 ghost use Rattle.gather_client.specs.CoreState.{client_facts};
 ghost use Rattle.scheduler_core.specs.Cores.{facts};
 ghost use Rattle.worker_core.specs.Core.{facts as worker_facts};
-ghost use Rattle.turn_cell.specs.Rows.{AllBy};
+ghost use Rattle.turn_cell.specs.Lists.{AllBy};
 ghost use Rattle.node_states.specs.Fitting.{ClientFits};
 ghost use Rattle.node_states.specs.declared.why.Why.TheVariants as why;
 ghost use Rattle.node_runner.specs.declared.plan.RunPlan.{RunPlan as AnyPlan};
-ghost use Rattle.node_runner.specs.Runs.{HasBlame, HasGot, IsFailure, IsFromWorker, IsGivenUp, IsGot, IsNamed, IsRow, NoneForMemory};
-ghost use Rattle.node_runner.specs.Runs.{feed_rows as rows_for_feeds, is_feed_row, without_feed as row_without_feed};
+ghost use Rattle.node_runner.specs.Outcomes.{HasBlame, IsFailure, IsGivenUp, IsNamed, NoneForMemory};
+ghost use Rattle.node_runner.specs.Runs.{HasGot, IsGot};
+ghost use Rattle.node_runner.specs.Outcomes.{IsRow};
+ghost use Rattle.node_runner.specs.Books.{IsFromWorker};
+ghost use Rattle.node_runner.specs.Outcomes.{feed_rows as rows_for_feeds, is_feed_row, without_feed as row_without_feed};
 
 use crate::plan::RunPlan;
 use crate::sink::Sink;

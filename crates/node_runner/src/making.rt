@@ -9,7 +9,7 @@ ghost use Rattle.node_states.specs.Fitting.{ClientFits, SchedFits};
 ghost use Rattle.node_states.specs.Opening.{IsOpening};
 ghost use Rattle.node_runner.specs.Making.{AreMade};
 ghost use Rattle.node_runner.specs.Naming.{run_facts};
-ghost use Rattle.node_runner.specs.Runs.{IsFirstScheduler, IsFirstWorker, IsFirstClient, numbers};
+ghost use Rattle.node_runner.specs.Books.{IsFirstScheduler, IsFirstWorker, IsFirstClient, numbers};
 
 use crate::label::{Fed, RunLabel, RunName};
 use crate::plan::RunPlan;

@@ -1,7 +1,9 @@
 //! What a run is to be like.
 ghost use Rattle.std.specs.Prelude.{◌≡◌, ◌<◌, ◌≤◌, ℕ, true, map, vec_len, Contains};
 ghost use Rattle.cluster_msgs.specs.Scripts.{removes_of};
-ghost use Rattle.node_runner.specs.Runs.{IsNamed, lacking_feeds, numbers, removals};
+ghost use Rattle.node_runner.specs.Outcomes.{IsNamed, removals};
+ghost use Rattle.node_runner.specs.Outcomes.{lacking_feeds};
+ghost use Rattle.node_runner.specs.Books.{numbers};
 
 use crate::ends::one_if;
 use cluster_msgs::{Item, Script};

@@ -7,9 +7,12 @@ ghost use Rattle.worker_core.specs.Core.{facts as worker_facts};
 ghost use Rattle.node_runner.specs.declared.ends.RunStatus.{RunStatus as AnyStatus};
 ghost use Rattle.node_runner.specs.Making.{AreMade};
 ghost use Rattle.node_runner.specs.Naming.{run_facts};
-ghost use Rattle.node_runner.specs.Runs.{AreBacked, HasFeedFault, HasNotRun, HasRun, HowItEnded, IsDecided, IsDoubt, LastFacts, numbers};
-ghost use Rattle.node_runner.specs.Runs.{failed_feeds, feed_rows, lacking_feeds, without_rows as end_without_rows};
-ghost use Rattle.node_runner.specs.Runs.{IsFirstScheduler, IsFirstWorker, IsFirstClient, IsSchedulersBook, IsWorkersBook, IsClientsBook};
+ghost use Rattle.node_runner.specs.Runs.{LastFacts};
+ghost use Rattle.node_runner.specs.Outcomes.{AreBacked};
+ghost use Rattle.node_runner.specs.Outcomes.{HasFeedFault, HasNotRun, HasRun, HowItEnded, IsDecided, IsDoubt};
+ghost use Rattle.node_runner.specs.Books.{numbers};
+ghost use Rattle.node_runner.specs.Outcomes.{failed_feeds, feed_rows, lacking_feeds, without_rows as end_without_rows};
+ghost use Rattle.node_runner.specs.Books.{IsFirstScheduler, IsFirstWorker, IsFirstClient, IsSchedulersBook, IsWorkersBook, IsClientsBook};
 
 use crate::closing::{end_nodes, not_run};
 use crate::ends::{

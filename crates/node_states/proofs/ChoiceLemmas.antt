@@ -9,9 +9,10 @@ use Rattle.cluster_msgs.specs.declared.cores.SchedEvent.TheVariants as sched
 use Rattle.cluster_rules.specs.Sched.{Facts, connected}
 use Rattle.cluster_rules.specs.SchedTable.{sched_takes}
 use Rattle.scheduler_core.specs.Cores.{facts}
-use Rattle.node_links.specs.Books.{BookState}
+use Rattle.node_links.specs.Entering.{BookState}
 use Rattle.node_states.specs.Machines.{SchedState, SchedSays}
-use Rattle.node_states.specs.Order.{FitsDue, IsHeard, IsFree, IsMessage, IsEvident, IsDelivered, is_gone, is_dead, IsOver, IsDue, NoneLost, IsTurnOf, IsChosen, Adds, IsQuiet, IsTurn, is_nothing, due_after, due_by, open_item}
+use Rattle.node_states.specs.Order.{FitsDue, IsHeard, IsFree, due_after, due_by, open_item}
+use Rattle.node_states.specs.Choosing.{IsMessage, IsEvident, IsDelivered, is_gone, is_dead, IsOver, IsDue, NoneLost, IsTurnOf, IsChosen, Adds, IsQuiet, IsTurn, is_nothing}
 use Rattle.node_states.proofs.Entries.{not_longer}
 use Rattle.node_states.specs.declared.choice.Course.{Course}
 use Rattle.node_states.specs.declared.choice.Course.TheVariants as course

@@ -13,10 +13,12 @@ use Rattle.cluster_msgs.specs.declared.messages.Message.TheVariants as message
 use Rattle.cluster_msgs.specs.declared.cores.SchedEvent.{SchedEvent}
 use Rattle.cluster_rules.specs.Sched.{Facts, Setting}
 use Rattle.scheduler_core.specs.Cores.{facts}
-use Rattle.node_links.specs.Books.{BookState, IsRecorded, Steps, StepsBy}
+use Rattle.node_links.specs.Books.{Steps, StepsBy}
+use Rattle.node_links.specs.Entering.{BookState, IsRecorded}
 use Rattle.node_states.specs.Fitting.{SchedEventFits}
 use Rattle.node_states.specs.Machines.{SchedState, SchedSays, SchedBy}
-use Rattle.node_states.specs.Order.{FitsDue, IsHeard, Progress, start_of, said, facts_by, lost_by, after, reached, IsInTime, AreInTime, is_gone, IsCourse, IsChosen, Adds, due_after}
+use Rattle.node_states.specs.Order.{FitsDue, IsHeard, Progress, start_of, said, facts_by, lost_by, after, IsInTime, AreInTime, due_after}
+use Rattle.node_states.specs.Choosing.{reached, is_gone, IsCourse, IsChosen, Adds}
 use Rattle.node_states.specs.declared.choice.Plan.{Plan}
 use Rattle.node_states.specs.declared.choice.Due.{Due}
 

@@ -6,7 +6,8 @@ use Rattle.cluster_msgs.specs.declared.events.Entry.{Entry}
 use Rattle.cluster_msgs.specs.declared.events.Event.{Event}
 use Rattle.cluster_msgs.specs.declared.events.Event.TheVariants as event
 use Rattle.cluster_msgs.specs.declared.messages.Message.{Message}
-use Rattle.node_links.specs.Books.{BookState, IsRecorded, IsEntered, Steps}
+use Rattle.node_links.specs.Books.{Steps}
+use Rattle.node_links.specs.Entering.{BookState, IsRecorded, IsEntered}
 use Rattle.node_states.specs.Workers.{is_end, no_end, ends_last, IsAlive}
 use Rattle.node_states.proofs.Kept.{kept_by}
 

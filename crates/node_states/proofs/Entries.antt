@@ -3,8 +3,8 @@ use Rattle.std.proofs.Common.{◌≡◌, ⊎_elim, List, [], ◌∷◌, ◌++◌
 use Rattle.cluster_msgs.specs.declared.events.Entry.{Entry}
 use Rattle.cluster_msgs.specs.declared.events.Event.{Event}
 use Rattle.cluster_msgs.specs.declared.messages.Message.{Message}
-use Rattle.node_links.specs.Books.{BookState, IsEntered}
-use Rattle.node_states.specs.Order.{Adds}
+use Rattle.node_links.specs.Entering.{BookState, IsEntered}
+use Rattle.node_states.specs.Choosing.{Adds}
 
 last_is : (xs : List Entry) (a b : Entry) → xs ++ a ∷ [] ≡ xs ++ b ∷ [] → a ≡ b
 last_is [] a b h = cc

@@ -11,7 +11,8 @@ use Rattle.cluster_msgs.specs.declared.cores.SchedEvent.TheVariants as sched
 use Rattle.cluster_rules.specs.Sched.{Facts, Setting}
 use Rattle.cluster_rules.specs.SchedTable.{sched_takes}
 use Rattle.cluster_laws.proofs.Framed.{step_last}
-use Rattle.node_states.specs.Order.{FitsDue, Progress, start_of, said, facts_by, after, AreInTime, JoinFirst, due_after, due_by, open_item}
+use Rattle.node_states.specs.Order.{FitsDue, Progress, start_of, said, facts_by, after, AreInTime, due_after, due_by, open_item}
+use Rattle.node_states.specs.Choosing.{JoinFirst}
 use Rattle.node_states.specs.declared.choice.Plan.{Plan}
 use Rattle.node_states.specs.declared.choice.Due.TheVariants as due
 

@@ -4,7 +4,8 @@ use Rattle.std.specs.Prelude.{All, slice_index_or}
 use Rattle.cluster_msgs.specs.declared.events.Entry.{Entry}
 use Rattle.cluster_msgs.specs.declared.events.Event.{Event}
 use Rattle.cluster_msgs.specs.declared.messages.Message.{Message}
-use Rattle.node_links.specs.Books.{BookState, IsRecorded, Steps, StepsBy}
+use Rattle.node_links.specs.Books.{Steps, StepsBy}
+use Rattle.node_links.specs.Entering.{BookState, IsRecorded}
 
 by_step : {C E : Type 0} (by : C → E → C → Type 0) (P : C → Type 0) → ((c : C) (e : E) (d : C) → by c e d → P c → P d) → (o : Option E) (c d : C) → StepsBy by o c d → P c → P d
 by_step by P keeps None c d s p = subst P (sym s) p

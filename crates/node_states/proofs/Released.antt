@@ -10,9 +10,9 @@ use Rattle.cluster_msgs.specs.declared.events.Event.{Event}
 use Rattle.cluster_msgs.specs.declared.messages.Message.{Message}
 use Rattle.cluster_rules.specs.Client.{ClientFacts, done}
 use Rattle.cluster_rules.specs.Derived.{is_in}
-use Rattle.node_links.specs.Books.{BookState, IsRecorded, IsEntered}
-use Rattle.node_states.specs.Released.{lets_go, is_released, WasReleased, AreReleased}
-use Rattle.node_states.specs.Spills.{Marked, is_marked, with_key}
+use Rattle.node_links.specs.Entering.{BookState, IsRecorded, IsEntered}
+use Rattle.node_states.specs.Released.{lets_go, is_released, WasReleased}
+use Rattle.node_states.specs.Spills.{AreReleased, Marked, is_marked, with_key}
 
 either : (a b c : Bool) → (b ≡ true → c ≡ true) → a || b ≡ true → a || c ≡ true
 either true b c f h = refl

@@ -4,7 +4,8 @@ use Rattle.std.specs.Prelude.{nat_lt}
 use Rattle.std.proofs.lemmas.Bool.{false≢true}
 use Rattle.cluster_msgs.specs.declared.events.Item.{Item}
 use Rattle.cluster_rules.specs.Sched.{Facts, IsSound, connected}
-use Rattle.node_states.specs.Order.{time_of, joins_of, is_done, open_from, is_dead, NoneLost}
+use Rattle.node_states.specs.Order.{time_of, joins_of, is_done, open_from}
+use Rattle.node_states.specs.Choosing.{is_dead, NoneLost}
 
 -- the item at a place is looked at, and then those after it
 at_item : (f : Facts) (n i : ℕ) (items : List Item) (x : Item) → i < length items

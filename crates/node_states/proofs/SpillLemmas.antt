@@ -13,9 +13,10 @@ use Rattle.cluster_rules.specs.Derived.{is_in}
 use Rattle.cluster_rules.specs.Worker.{WorkerFacts}
 use Rattle.cluster_rules.specs.WorkerStep.{worker_step}
 use Rattle.cluster_laws.proofs.Within.{AllPass, BringsWithin, within_step}
-use Rattle.node_links.specs.Books.{BookState, StepsBy}
+use Rattle.node_links.specs.Books.{StepsBy}
+use Rattle.node_links.specs.Entering.{BookState}
 use Rattle.node_states.specs.Machines.{WorkerBy}
-use Rattle.node_states.specs.Order.{Adds}
+use Rattle.node_states.specs.Choosing.{Adds}
 use Rattle.node_states.specs.Spills.{Marked, is_marked, spilled, spilled_key, with_key, coming, SpillsBy, SpillsSame, ComesAmong, NoneDue, IsLeastDue, IsInOrder, AddsInOrder}
 use Rattle.node_states.specs.Stores.{Stock}
 use Rattle.node_states.proofs.Entries.{not_longer}

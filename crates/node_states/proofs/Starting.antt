@@ -4,10 +4,10 @@ use Rattle.std.proofs.lemmas.Bool.{false≢true}
 use Rattle.cluster_msgs.specs.declared.events.Entry.{Entry}
 use Rattle.cluster_rules.specs.Sched.{Facts}
 use Rattle.scheduler_core.specs.Cores.{facts}
-use Rattle.node_links.specs.Books.{BookState}
+use Rattle.node_links.specs.Entering.{BookState}
 use Rattle.node_states.specs.Machines.{SchedState}
 use Rattle.node_states.specs.Opening.{IsOpening}
-use Rattle.node_states.specs.Order.{IsCourse}
+use Rattle.node_states.specs.Choosing.{IsCourse}
 use Rattle.node_states.specs.declared.choice.Plan.{Plan}
 
 without : (p : Plan) (f : Facts) (gone : List Bool) (entries : List Entry) → entries ≡ [] → IsOpening f → IsCourse p f gone entries

@@ -1,3 +1,4 @@
+pub mod Choosing
 pub mod Machines
 pub mod Fitting
 pub mod Workers

@@ -4,8 +4,6 @@ use Rattle.cluster_msgs.specs.declared.events.Entry.{Entry}
 use Rattle.cluster_msgs.specs.declared.events.Event.{Event}
 use Rattle.cluster_msgs.specs.declared.events.Event.TheVariants as event
 use Rattle.cluster_rules.specs.Derived.{is_in}
-use Rattle.node_links.specs.Books.{BookState}
-use Rattle.node_states.specs.Spills.{Marked, is_marked}
 
 -- an event by which a client lets the key go
 abbrev pub lets_go : ℕ → Event → Bool
@@ -20,7 +18,3 @@ is_released k (e ∷ es) = lets_go k e.event || is_released k es
 -- the key was let go: by one of these entries, unless one was left out
 pub record WasReleased (k : ℕ) (entries : List Entry) (cut : Bool) : Type 0 where
   pub by : cut ≡ false → is_released k entries ≡ true
-
--- each marked key was let go
-pub record AreReleased {C : Type 0} (marks : Marked) (book : BookState C) : Type 0 where
-  pub each : (k : ℕ) → is_marked marks k ≡ true → WasReleased k book.entries book.cut

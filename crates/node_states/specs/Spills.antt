@@ -12,6 +12,8 @@ use Rattle.cluster_rules.specs.Worker.{WorkerFacts}
 use Rattle.key_sets.specs.Sets.{has}
 use Rattle.node_states.specs.Machines.{WorkerSays}
 use Rattle.node_states.specs.Stores.{Stock}
+use Rattle.node_links.specs.Entering.{BookState}
+use Rattle.node_states.specs.Released.{WasReleased}
 
 -- some of the keys below a number, as the words of a set
 pub record Marked : Type 0 where
@@ -103,3 +105,7 @@ KeepsHeardOf s w m t v n = (keys : ℕ) (known : Marked) → IsHeardOf keys know
 -- the same, whatever the facts are, of keys below a number for which there is room
 abbrev pub HearsOf : Stock → Marked → Stock → Marked → Type 0
 HearsOf s known t more = (keys : ℕ) (w : WorkerFacts) (m : Marked) → keys ≤ known.keys → IsHeardOf keys known s w m → IsHeardOf keys more t w m
+
+-- each marked key was let go
+pub record AreReleased {C : Type 0} (marks : Marked) (book : BookState C) : Type 0 where
+  pub each : (k : ℕ) → is_marked marks k ≡ true → WasReleased k book.entries book.cut

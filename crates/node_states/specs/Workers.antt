@@ -3,7 +3,7 @@ use Rattle.std.specs.Prelude.{◌≡◌, ℕ, ◌==◌, Bool, true, false, not, 
 use Rattle.cluster_msgs.specs.declared.events.Entry.{Entry}
 use Rattle.cluster_msgs.specs.declared.events.Event.{Event}
 use Rattle.cluster_msgs.specs.declared.events.Event.TheVariants as event
-use Rattle.node_links.specs.Books.{BookState}
+use Rattle.node_links.specs.Entering.{BookState}
 
 abbrev pub is_end : Event → Bool
 is_end (event.Lose w) = true

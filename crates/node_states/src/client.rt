@@ -6,10 +6,12 @@ ghost use Rattle.cluster_msgs.specs.declared.events.Asker.TheVariants.{Client};
 ghost use Rattle.cluster_msgs.specs.declared.events.Event.TheVariants as event;
 ghost use Rattle.cluster_rules.specs.Client.{ClientFacts, done};
 ghost use Rattle.gather_client.specs.CoreState.{client_facts};
-ghost use Rattle.node_links.specs.Books.{IsEntered, IsRecorded, Steps};
+ghost use Rattle.node_links.specs.Books.{Steps};
+ghost use Rattle.node_links.specs.Entering.{IsEntered, IsRecorded};
 ghost use Rattle.node_states.specs.Fitting.{ClientFits};
 ghost use Rattle.node_states.specs.Machines.{ClientSays};
-ghost use Rattle.node_states.specs.Released.{AreReleased, WasReleased, lets_go};
+ghost use Rattle.node_states.specs.Released.{WasReleased, lets_go};
+ghost use Rattle.node_states.specs.Spills.{AreReleased};
 
 use crate::cores::{GatheringCore, NODE_BYTES};
 use crate::evidence::{Blame, ClientCause};

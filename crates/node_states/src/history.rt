@@ -3,8 +3,9 @@ ghost use Rattle.std.specs.Prelude.{◌≡◌, ℕ, [], true, false, IfOk, IfSom
 ghost use Rattle.cluster_msgs.specs.declared.events.Event.TheVariants as event;
 ghost use Rattle.cluster_rules.specs.Derived.{is_in};
 ghost use Rattle.worker_core.specs.Core.{facts};
-ghost use Rattle.node_links.specs.Books.{IsLogOf, IsRecorded, IsEntered, Steps};
-ghost use Rattle.node_states.specs.Order.{Adds};
+ghost use Rattle.node_links.specs.Books.{Steps};
+ghost use Rattle.node_links.specs.Entering.{IsLogOf, IsRecorded, IsEntered};
+ghost use Rattle.node_states.specs.Choosing.{Adds};
 ghost use Rattle.node_states.specs.Spills.{ComesAmong, MayMake, SpillsBy, SpillsSame, coming, is_marked, spilled_key};
 ghost use Rattle.node_states.specs.Workers.{is_end, no_end, ends_last, IsAlive};
 

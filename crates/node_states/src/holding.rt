@@ -2,8 +2,9 @@
 ghost use Rattle.std.specs.Prelude.{◌≡◌, ℕ, ◌∷◌, ◌++◌, [], true, false, map, filter, IfOk, OnOk};
 ghost use Rattle.cluster_rules.specs.Derived.{is_in};
 ghost use Rattle.worker_core.specs.Core.{facts};
-ghost use Rattle.node_links.specs.Books.{IsRecorded, IsEntered, Steps};
-ghost use Rattle.node_states.specs.Order.{Adds};
+ghost use Rattle.node_links.specs.Books.{Steps};
+ghost use Rattle.node_links.specs.Entering.{IsRecorded, IsEntered};
+ghost use Rattle.node_states.specs.Choosing.{Adds};
 ghost use Rattle.node_states.specs.Reading.{IfWhole};
 ghost use Rattle.node_states.specs.Spills.{HearsOf, IsHeardOf, IsNextDue, KeepsHeardOf, MayMake, coming, is_marked};
 ghost use Rattle.node_states.specs.Stores.{GoesOn};

@@ -2,7 +2,7 @@
 ghost use Rattle.std.specs.Prelude.{◌≡◌, ◌<◌, ℕ, true, false, length, Err, IfSome};
 ghost use Rattle.cluster_msgs.specs.Labels.{PacketFits, ToClientFits};
 ghost use Rattle.node_states.specs.Fitting.{InstructionFits, InstructionsFit, LettersFit};
-ghost use Rattle.node_states.specs.Order.{is_dead, is_gone};
+ghost use Rattle.node_states.specs.Choosing.{is_dead, is_gone};
 ghost use Rattle.node_states.specs.declared.links.Source.TheVariants as origin;
 
 use crate::evidence::{SchedOut, WorkerOut};

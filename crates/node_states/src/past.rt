@@ -2,9 +2,11 @@
 ghost use Rattle.std.specs.Prelude.{◌≡◌, ◌≤◌, ◌^◌, ℕ, [], true, false, IfOk, IfSome, OnErr, length};
 ghost use Rattle.cluster_msgs.specs.declared.events.Event.TheVariants as kind;
 ghost use Rattle.scheduler_core.specs.Cores.{facts};
-ghost use Rattle.node_links.specs.Books.{IsLogOf, IsRecorded, Steps};
+ghost use Rattle.node_links.specs.Books.{Steps};
+ghost use Rattle.node_links.specs.Entering.{IsLogOf, IsRecorded};
 ghost use Rattle.node_states.specs.Opening.{IsOpening};
-ghost use Rattle.node_states.specs.Order.{IsChosen, Adds, AreInTime, JoinFirst, start_of, is_gone};
+ghost use Rattle.node_states.specs.Order.{AreInTime, start_of};
+ghost use Rattle.node_states.specs.Choosing.{IsChosen, Adds, JoinFirst, is_gone};
 
 use crate::cores::{SCHEDULER_BYTES, SchedulingCore};
 use crate::evidence::{SchedCause, SchedOut};
@@ -25,7 +27,7 @@ pub struct SchedulerHistory<L: Label> {
 impl<L: Label> Model for SchedulerHistory<L> {
     ghost use Rattle.std.specs.Prelude.{◌≡◌, false};
     ghost use Rattle.scheduler_core.specs.Cores.{facts};
-    ghost use Rattle.node_states.specs.Order.{SchedulerPast, IsCourse};
+    ghost use Rattle.node_states.specs.Choosing.{SchedulerPast, IsCourse};
 
     ghost Value = { SchedulerPast };
 

@@ -6,13 +6,14 @@ ghost use Rattle.cluster_msgs.specs.declared.events.Event.TheVariants as kind;
 ghost use Rattle.cluster_rules.specs.Sched.{Facts as SchedFacts};
 ghost use Rattle.cluster_rules.specs.SchedTable.{sched_takes};
 ghost use Rattle.scheduler_core.specs.Cores.{facts};
-ghost use Rattle.node_links.specs.Books.{IsRecorded, Steps};
+ghost use Rattle.node_links.specs.Books.{Steps};
+ghost use Rattle.node_links.specs.Entering.{IsRecorded};
 ghost use Rattle.node_states.specs.declared.choice.Course.TheVariants as course;
 ghost use Rattle.node_states.specs.declared.choice.Due.TheVariants as due;
 ghost use Rattle.node_states.specs.declared.links.Source.TheVariants as origin;
 ghost use Rattle.node_states.specs.Machines.{SchedSays};
 ghost use Rattle.node_states.specs.Opening.{IsOpening};
-ghost use Rattle.node_states.specs.Order.{IsOver, IsDue, IsChosen, IsDelivered, IsQuiet, IsTurn, Adds, NoneLost, is_gone};
+ghost use Rattle.node_states.specs.Choosing.{IsOver, IsDue, IsChosen, IsDelivered, IsQuiet, IsTurn, Adds, NoneLost, is_gone};
 
 use crate::choice::{Course, Due};
 use crate::cores::SchedulingCore;

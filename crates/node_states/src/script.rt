@@ -4,7 +4,8 @@ ghost use Rattle.cluster_rules.specs.Sched.{connected};
 ghost use Rattle.cluster_rules.specs.SchedTable.{sched_takes};
 ghost use Rattle.scheduler_core.specs.Cores.{facts};
 ghost use Rattle.node_states.specs.declared.choice.Due.TheVariants as due;
-ghost use Rattle.node_states.specs.Order.{time_of, joins_of, is_done, open_item, due_by, is_dead, NoneLost};
+ghost use Rattle.node_states.specs.Order.{time_of, joins_of, is_done, open_item, due_by};
+ghost use Rattle.node_states.specs.Choosing.{is_dead, NoneLost};
 
 use crate::choice::{Due, Plan};
 use crate::links::is_dead;

@@ -8,13 +8,14 @@ use Rattle.nd_shape.specs.Limits.{IsPassed}
 use Rattle.nd_shape.specs.declared.shape.ShapeLimit.{ShapeLimit as Limit}
 use Rattle.nd_shape.specs.declared.shape.ShapeLimit.TheVariants.{Axes, Elements}
 use Rattle.npy_header.specs.Headers.{Fields, IsHeader}
-use Rattle.npy_header.specs.Reading.{IsRefused, Says, cap, capped}
+use Rattle.npy_header.specs.Reading.{Says, cap, capped}
+use Rattle.npy_header.specs.Refused.{IsRefused}
 use Rattle.io_edge.specs.Content.{Content, Told, Untold, OnTold, size_of}
 use Rattle.npy_codec.specs.declared.head.Head.{Head}
 use Rattle.npy_codec.specs.declared.error.NpyError.{NpyError}
 use Rattle.npy_codec.specs.declared.error.NpyError.TheVariants.{NotNpy, Version, HeaderLimit, Truncated, HeaderText, Descr, ShapeLimit, ReadFault, OutOfMemory}
 use Rattle.npy_codec.specs.Files.{CellType, HasFixed, HasVersion, HasText, HasHead, IsDescr, IsKnown, IsNotMagic, IsOtherVersion, IsShortFixed, IsShortVersion, IsRefusedAs, PassesHeaderLimit, data_bytes, fixed_len, fixed_of, header_limit, is_wide, text_len_at, text_of}
-use Rattle.npy_codec.specs.Regions.{IsWidth}
+use Rattle.npy_codec.specs.Needed.{IsWidth}
 use Rattle.npy_codec.specs.declared.read.Front.{Front}
 use Rattle.npy_codec.specs.Fronts.{HasFront, DeclaresHead, FixedRefusedAs, IsHeadOfFields, FieldsRefusedAs, IsHeadOfText, TextRefusedAs}
 use Rattle.npy_codec.proofs.Types.{width_of}

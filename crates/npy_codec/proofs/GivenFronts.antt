@@ -3,7 +3,8 @@ use Rattle.std.proofs.Common.{◌≡◌, ℕ, zero, suc, ◌+◌, ◌-◌, ◌*�
 use Rattle.std.specs.Prelude.{Result, Ok, Err, IfOk, IfErr, OnOk}
 use Rattle.nd_shape.specs.Shape.{elements}
 use Rattle.io_edge.specs.Content.{Content, Told, ReadsAll, size_of}
-use Rattle.io_edge.specs.Given.{GivesMore, GivesOf, Piece, with_read}
+use Rattle.io_edge.specs.Given.{Piece}
+use Rattle.io_edge.specs.Transcript.{GivesMore, GivesOf, with_read}
 use Rattle.io_edge.proofs.GivenLaws.{file_any, file_as, file_both, file_long}
 use Rattle.npy_codec.specs.declared.head.Head.{Head}
 use Rattle.npy_codec.specs.declared.error.NpyError.{NpyError}

@@ -2,7 +2,7 @@
 use Rattle.std.proofs.Common.{◌≡◌, ◌-◌, ℕ, List, [], ◌∷◌, length, inl, inr, refl, sym, ◌∙◌}
 use Rattle.std.specs.Prelude.{slice_index, nat_eq}
 use Rattle.npy_codec.specs.Files.{CellType, IsDescr, little_eight, big_eight, little_four, big_four, little_two, big_two, one}
-use Rattle.npy_codec.specs.Regions.{IsWidth}
+use Rattle.npy_codec.specs.Needed.{IsWidth}
 
 pub three : (d : List ℕ) (a b c : ℕ) → length d ≡ 3 → slice_index d 0 ≡ a → slice_index d 1 ≡ b → slice_index d 2 ≡ c → d ≡ a ∷ b ∷ c ∷ []
 three [] a b c l e f g = cc

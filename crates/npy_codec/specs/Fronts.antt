@@ -2,7 +2,7 @@
 use Rattle.std.specs.Prelude.{◌≡◌, ◌≤◌, ◌+◌, ◌⊎◌, ℕ, Bool, List, length}
 use Rattle.nd_shape.specs.Shape.{IsShape}
 use Rattle.npy_header.specs.Headers.{Fields, IsHeader}
-use Rattle.npy_header.specs.Reading.{IsRefused}
+use Rattle.npy_header.specs.Refused.{IsRefused}
 use Rattle.npy_codec.specs.declared.head.Head.{Head}
 use Rattle.npy_codec.specs.declared.error.NpyError.{NpyError}
 use Rattle.npy_codec.specs.declared.error.NpyError.TheVariants.{NotNpy, Version, HeaderLimit, Truncated, HeaderText, Descr, ShapeLimit, ReadFault, OutOfMemory}

@@ -2,7 +2,7 @@
 ghost use Rattle.std.specs.Prelude.{◌≡◌, ◌≤◌, ◌<◌, ◌+◌, ◌^◌, length, take, drop, IfOk, IfErr, OnOk, IsErrOf};
 ghost use Rattle.io_edge.specs.Cause.{Rose};
 ghost use Rattle.io_edge.specs.Content.{size_of, file_at, OnTold};
-ghost use Rattle.io_edge.specs.Given.{GivesMore, GivesOf};
+ghost use Rattle.io_edge.specs.Transcript.{GivesMore, GivesOf};
 ghost use Rattle.npy_codec.specs.Files.{IsRefusedAs};
 ghost use Rattle.npy_codec.specs.Fronts.{IsFaultOrMemory};
 

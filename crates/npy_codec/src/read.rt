@@ -2,11 +2,11 @@
 ghost use Rattle.std.specs.Prelude.{◌≡◌, ◌≤◌, ◌<◌, ◌+◌, ◌-◌, ◌*◌, ◌^◌, length, take, IfOk, IfErr, OnOk, IsErrOf, MatchOption};
 ghost use Rattle.io_edge.specs.Cause.{Rose};
 ghost use Rattle.io_edge.specs.Content.{size_of, file_at, OnTold};
-ghost use Rattle.io_edge.specs.Given.{GivesMore, GivesOf};
+ghost use Rattle.io_edge.specs.Transcript.{GivesMore, GivesOf};
 ghost use Rattle.nd_shape.specs.Shape.{elements};
 ghost use Rattle.npy_codec.specs.Files.{magic, CellType, HasFixed, HasHead, IsDescr, IsNotMagic, IsRefusedAs, data_bytes, fixed_of, header_limit, text_len_of};
 ghost use Rattle.npy_codec.specs.Fronts.{DeclaresHead, FieldsRefusedAs, FixedRefusedAs, HasFront, IsHeadOfFields, IsHeadOfText, TextRefusedAs};
-ghost use Rattle.npy_codec.specs.Regions.{IsWidth};
+ghost use Rattle.npy_codec.specs.Needed.{IsWidth};
 
 use crate::error::NpyError;
 use crate::head::Head;

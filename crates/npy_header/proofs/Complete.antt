@@ -1,7 +1,7 @@
 -- Each header is derived by the rows, with events that leave its fields.
 use Rattle.std.proofs.Common.{◌≡◌, ℕ, zero, ◌+◌, ◌-◌, ◌*◌, Bool, true, false, ◌||◌, cond, nat_eq, List, [], ◌∷◌, ◌++◌, ◌⊎◌, inl, inr, Some, None, refl, ap, sym, subst, ◌∙◌, arith, append_assoc, append-nil, ◌≤◌, nat_le}
 use Rattle.std.proofs.lemmas.Bool.{eqb-true, eqb-false, leb-true, leb-false, le-leb}
-use Rattle.grammar.specs.Grammars.{Event, took, did, tokens}
+use Rattle.grammar.specs.Events.{Event, took, did, tokens}
 use Rattle.npy_header.specs.Headers.{Within, Continues, ArePastAscii, InString, ascii, ends, past, Fields, Quote, single, double, quote_byte, AllBytes, AreSpaces, IsInside, IsDigit, decimal, IsNumber, Entry, descr, fortran, shape, key_text, bool_text, AreAxes, IsValue, IsItem, AreMore, Keys, has, without, EachOnce, with_entry, with_entries, IsHeader}
 use Rattle.npy_header.specs.Kinds.{kind_of}
 use Rattle.npy_header.specs.Scans.{fresh, fields_of, after_byte, after_action, after_events}

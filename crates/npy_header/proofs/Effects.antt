@@ -1,6 +1,6 @@
 -- Events with the bytes that they take and what they do to the fields.
 use Rattle.std.proofs.Common.{◌≡◌, ℕ, ◌+◌, ◌-◌, List, [], ◌∷◌, ◌++◌, refl, ap, sym, subst, ◌∙◌, append_assoc, append-nil}
-use Rattle.grammar.specs.Grammars.{Event, took, did, tokens}
+use Rattle.grammar.specs.Events.{Event, took, did, tokens}
 use Rattle.grammar.proofs.Derivations.{tokens-append}
 use Rattle.npy_header.specs.Headers.{Fields, decimal, descr, with_entry}
 use Rattle.npy_header.specs.Scans.{Scan, fields_of, after_byte, after_action, after_event, after_events}

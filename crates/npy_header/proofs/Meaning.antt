@@ -6,7 +6,8 @@ use Rattle.std.proofs.lemmas.Bool.{and_parts, ltb-true}
 use Rattle.std.proofs.lemmas.Option.{get_or_from_slice_get, slice_get-get_or}
 use Rattle.grammar.specs.declared.symbol.Symbol.{Symbol}
 use Rattle.grammar.specs.declared.symbol.Symbol.TheVariants.{Token, Part, Action}
-use Rattle.grammar.specs.Grammars.{Grammar, Event, took, did, DerivesIn, Derives}
+use Rattle.grammar.specs.Grammars.{Grammar, DerivesIn, Derives}
+use Rattle.grammar.specs.Events.{Event, took, did}
 use Rattle.grammar.specs.Tables.{rule_maybe, entry_rule, on_row, grammar_of}
 use Rattle.grammar.specs.Tests.{named}
 use Rattle.grammar.proofs.Checked.{on-found, other-found, on-ok, other-ok}

@@ -1,6 +1,6 @@
 -- What each named part means: which bytes it takes, and what it does to the fields.
 use Rattle.std.proofs.Common.{◌≡◌, ℕ, ◌+◌, ◌-◌, ◌≤◌, Bool, List, [], ◌∷◌, ◌++◌, ◌⊎◌}
-use Rattle.grammar.specs.Grammars.{Event, took, tokens}
+use Rattle.grammar.specs.Events.{Event, took, tokens}
 use Rattle.npy_header.specs.Headers.{Fields, Quote, quote_byte, AllBytes, AreSpaces, InString, IsDigit, IsNumber, Entry, descr, fortran, shape, AreAxes, IsValue, IsItem, AreMore, Keys, EachOnce, with_entry, with_entries, IsHeader}
 use Rattle.npy_header.specs.Scans.{fresh, fields_of, after_events}
 use Rattle.npy_header.specs.Kinds.{kind_of}

@@ -6,7 +6,8 @@ use Rattle.std.proofs.Math.Seq.{take-suc}
 use Rattle.std.proofs.lemmas.Option.{get_or_from_slice_get}
 use Rattle.grammar.specs.declared.symbol.Symbol.{Symbol}
 use Rattle.grammar.specs.declared.symbol.Symbol.TheVariants.{Part}
-use Rattle.grammar.specs.Grammars.{Event, took, did_all, tokens, Begins, Derives, taken, refused, step}
+use Rattle.grammar.specs.Grammars.{Derives, taken, refused, step}
+use Rattle.grammar.specs.Events.{Event, took, did_all, tokens, Begins}
 use Rattle.grammar.specs.Tables.{Rows, grammar_of}
 use Rattle.grammar.specs.Reading.{step_of}
 use Rattle.grammar.specs.declared.reply.Reply.{Reply}
@@ -19,7 +20,8 @@ use Rattle.npy_header.specs.Kinds.{kind_of}
 use Rattle.npy_header.specs.HeaderRows.{narrow_rows, wide_rows, rows_of, narrow_certificate, wide_certificate, certificate_of}
 use Rattle.npy_header.specs.Typed.{start, parts}
 use Rattle.npy_header.specs.Scans.{Scan, fresh, fields_of, after_byte, after_action, after_events}
-use Rattle.npy_header.specs.Reading.{cap, capped, capped_scan, after_byte_capped, after_actions, IsReading, IsRefused, Says}
+use Rattle.npy_header.specs.Reading.{cap, capped, capped_scan, after_byte_capped, after_actions, IsReading, Says}
+use Rattle.npy_header.specs.Refused.{IsRefused}
 use Rattle.npy_header.proofs.Table.{numbers, header_ll1, header_moves}
 use Rattle.npy_header.proofs.Meaning.{G, means, get-map, get-map-back, at-numbers}
 use Rattle.npy_header.proofs.Effects.{events-append}

@@ -3,7 +3,7 @@ use Rattle.std.proofs.Common.{◌≡◌, ℕ, zero, ◌<◌, ◌+◌, ◌-◌, �
 use Rattle.std.specs.Prelude.{Option, slice_get}
 use Rattle.std.proofs.lemmas.Bool.{eqb-true, and_parts, or_cases, leb-true, eqb-false}
 use Rattle.std.proofs.lemmas.Option.{none-some}
-use Rattle.grammar.specs.Grammars.{Event, took, did}
+use Rattle.grammar.specs.Events.{Event, took, did}
 use Rattle.npy_header.specs.Headers.{Within, Continues, ArePastAscii, InString, ascii, ends, past, Fields, Quote, single, double, quote_byte, AreSpaces, IsDigit, decimal, Entry, descr, fortran, shape, key_text, bool_text, IsTuple, IsValue, Keys, has, without, with_entry, with_entries}
 use Rattle.npy_header.specs.Kinds.{singles, kind_of}
 use Rattle.npy_header.specs.Scans.{Scan, fresh, fields_of, after_byte, after_action}

@@ -1,8 +1,8 @@
 -- What a header's reader holds after some bytes, and what its answers mean.
-use Rattle.std.specs.Prelude.{◌≡◌, ℕ, ◌+◌, ◌-◌, ◌*◌, ◌^◌, ◌<◌, ◌≤◌, Bool, min, map, take, length, List, [], ◌∷◌, ◌++◌}
+use Rattle.std.specs.Prelude.{◌≡◌, ℕ, ◌+◌, ◌-◌, ◌*◌, ◌^◌, ◌<◌, Bool, min, map, List, [], ◌∷◌, ◌++◌}
 use Rattle.grammar.specs.declared.symbol.Symbol.{Symbol}
 use Rattle.grammar.specs.declared.symbol.Symbol.TheVariants.{Part}
-use Rattle.grammar.specs.Grammars.{Event, tokens}
+use Rattle.grammar.specs.Events.{Event, tokens}
 use Rattle.grammar.specs.Tables.{grammar_of}
 use Rattle.grammar.specs.Runs.{IsReady, Leaves}
 use Rattle.npy_header.specs.declared.fields.HeaderError.{HeaderError}
@@ -11,6 +11,7 @@ use Rattle.npy_header.specs.Headers.{Fields, IsHeader}
 use Rattle.npy_header.specs.Kinds.{kind_of}
 use Rattle.npy_header.specs.HeaderRows.{rows_of, certificate_of}
 use Rattle.npy_header.specs.Scans.{Scan, fresh, after_action, after_events}
+use Rattle.npy_header.specs.Refused.{IsRefused}
 
 -- ---- numbers of any length in 64 bits
 
@@ -41,13 +42,6 @@ pub record IsReading (wide : Bool) (w : List ℕ) (left : List Symbol) (scan : S
   pub ready : IsReady (rows_of wide) (certificate_of wide) left
   pub scanned : scan ≡ capped_scan (after_events past fresh)
   pub byte : (after_events past fresh).last < 256
-
--- the first offset for which no such header begins with the bytes up to and with it, or the end where there is none
-pub record IsRefused (wide : Bool) (w : List ℕ) (at : ℕ) : Type 0 where
-  pub within : at ≤ length w
-  pub begun : (more : List ℕ) × (f : Fields) × IsHeader wide (take at w ++ more) f
-  pub first : at < length w → (more : List ℕ) (f : Fields) → IsHeader wide (take (at + 1) w ++ more) f → ⊥
-  pub no_header : (f : Fields) → IsHeader wide w f → ⊥
 
 -- nothing where memory ran out
 abbrev pub RefusedAs : Bool → List ℕ → HeaderError → Type 0

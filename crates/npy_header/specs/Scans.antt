@@ -1,6 +1,6 @@
 -- What is kept of the bytes and actions of a header while it is read.
 use Rattle.std.specs.Prelude.{ℕ, zero, suc, ◌+◌, ◌-◌, ◌*◌, Bool, true, false, List, [], ◌∷◌, ◌++◌}
-use Rattle.grammar.specs.Grammars.{Event, took, did}
+use Rattle.grammar.specs.Events.{Event, took, did}
 use Rattle.npy_header.specs.Headers.{Fields}
 
 -- the last byte, the number that the bytes since the action `first` write, the bytes since the action `begin`, and the fields

@@ -1,7 +1,8 @@
 -- What the pieces that were read of a file say of the elements of whatever it holds.
 use Rattle.std.proofs.Common.{◌≡◌, ℕ, ℤ, ◌≤◌, ◌<◌, ◌+◌, ◌*◌, List, [], ◌++◌, length, drop, refl, sym, subst, arith, mul-le-mul_left}
 use Rattle.io_edge.specs.Content.{Told, ReadsAll}
-use Rattle.io_edge.specs.Given.{GivesOf, Piece, with_read}
+use Rattle.io_edge.specs.Given.{Piece}
+use Rattle.io_edge.specs.Transcript.{GivesOf, with_read}
 use Rattle.io_edge.proofs.GivenLaws.{file_any, file_as, file_both, file_long, more_same}
 use Rattle.nd_shape.specs.Block.{Array}
 use Rattle.nd_shape.specs.Region.{Box, IsPart}

@@ -11,15 +11,18 @@ use Rattle.nd_shape.specs.Index.{place}
 use Rattle.nd_shape.specs.Block.{Array}
 use Rattle.nd_shape.specs.Region.{Box, IsPart, moved}
 use Rattle.nd_shape.proofs.Places.{place-below, index_at-place}
-use Rattle.nd_rows.specs.Storage.{Walk, IsRow, spot, count_of, walk_of, place_by, column_place, from_column, last_index}
+use Rattle.nd_rows.specs.Storage.{Walk, IsRow, spot, count_of, walk_of, from_column, last_index}
+use Rattle.nd_rows.specs.Places.{place_by, column_place}
 use Rattle.nd_rows.proofs.Order.{count-walk_of, IsPart-walk_of, spot-place_by, spot-last, spot-ascends, index_of}
 use Rattle.nd_rows.proofs.Turns.{column_place-below, split}
 use Rattle.npy_codec.specs.declared.head.Head.{Head}
 use Rattle.npy_codec.specs.Npy.{wide_cell}
-use Rattle.io_edge.specs.Given.{GivesOnly, IsWithin, Piece, with_read}
+use Rattle.io_edge.specs.Given.{Piece}
+use Rattle.io_edge.specs.Transcript.{GivesOnly, IsWithin, with_read}
 use Rattle.io_edge.proofs.GivenLaws.{only_one, only_then, only_as}
 use Rattle.npy_region.specs.Cells.{AreStored, EndsWithin, InRowMajor, IsStoredByte, IsByteIn, first_cells}
-use Rattle.npy_codec.specs.Regions.{HoldsRegion, bytes_up_to, cell_at, needed, number_at}
+use Rattle.npy_codec.specs.Regions.{HoldsRegion, cell_at, number_at}
+use Rattle.npy_codec.specs.Needed.{bytes_up_to, needed}
 use Rattle.npy_region.proofs.CellLemmas.{length-cells, cells-get}
 use Rattle.npy_region.proofs.Widths.{at_next, at_plus}
 

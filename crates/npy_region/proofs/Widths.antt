@@ -3,7 +3,8 @@ use Rattle.std.proofs.Common.{◌≡◌, ℕ, zero, suc, ◌≤◌, ◌<◌, ◌
 use Rattle.std.proofs.lemmas.Nat.{div-add-mod', div-mul-add, mod_below}
 use Rattle.nd_rows.proofs.Turns.{split}
 use Rattle.npy_codec.specs.declared.head.Head.{Head}
-use Rattle.npy_codec.specs.Regions.{IsWidth, number_at}
+use Rattle.npy_codec.specs.Regions.{number_at}
+use Rattle.npy_codec.specs.Needed.{IsWidth}
 
 pub some_bytes : (w : ℕ) → IsWidth w → 0 < w
 some_bytes w h = omega (arith, h)

@@ -13,15 +13,16 @@ use Rattle.nd_shape.specs.Block.{Array}
 use Rattle.nd_shape.specs.Index.{IsIn, place}
 use Rattle.nd_shape.specs.Region.{Box, IsPart, moved}
 use Rattle.nd_shape.proofs.Places.{place-below}
-use Rattle.nd_rows.specs.Storage.{place_by}
+use Rattle.nd_rows.specs.Places.{place_by}
 use Rattle.nd_rows.proofs.Spots.{moved-in}
 use Rattle.nd_rows.proofs.Turns.{column_place-below, split}
 use Rattle.npy_codec.specs.declared.head.Head.{Head}
 use Rattle.npy_codec.specs.Npy.{cell_bytes, cells_bytes}
-use Rattle.npy_codec.specs.Regions.{offset_of}
+use Rattle.npy_codec.specs.Needed.{offset_of}
 use Rattle.npy_region.specs.declared.runs.Run.{Run}
 use Rattle.npy_region.specs.Runs.{AreRuns, StandsIn, no_run}
-use Rattle.npy_region.specs.Writing.{byte_at, IsByteOf, IsOutside, Turns, WritesRegion, WritesSome}
+use Rattle.npy_region.specs.Writing.{IsByteOf, IsOutside, Turns, WritesRegion, WritesSome}
+use Rattle.npy_region.specs.Bytes.{byte_at}
 use Rattle.npy_codec.proofs.WrittenFiles.{length-cells_bytes}
 
 -- ## Elements as bytes

@@ -7,7 +7,8 @@ use Rattle.nd_shape.specs.Region.{Box, moved}
 use Rattle.nd_rows.specs.Storage.{Walk, count_of, spot, from_column}
 use Rattle.npy_codec.specs.declared.head.Head.{Head}
 use Rattle.npy_codec.specs.Npy.{wide_cell}
-use Rattle.npy_codec.specs.Regions.{cell_at, number_at, offset_of}
+use Rattle.npy_codec.specs.Regions.{cell_at, number_at}
+use Rattle.npy_codec.specs.Needed.{offset_of}
 
 -- the first elements of these bytes, each of so many bytes
 abbrev pub first_cells : ℕ → Bool → ℕ → List ℕ → List ℤ

@@ -1,4 +1,5 @@
 pub mod Building
+pub mod Bytes
 pub mod Cells
 pub mod Runs
 pub mod Writing

@@ -3,7 +3,7 @@ use Rattle.std.specs.Prelude.{◌≡◌, ◌≤◌, ◌<◌, ◌+◌, ◌*◌, �
 use Rattle.nd_shape.specs.Index.{IsIn, place}
 use Rattle.nd_shape.specs.Region.{Box, moved}
 use Rattle.npy_codec.specs.declared.head.Head.{Head}
-use Rattle.npy_codec.specs.Regions.{offset_of}
+use Rattle.npy_codec.specs.Needed.{offset_of}
 use Rattle.npy_region.specs.declared.runs.Run.{Run}
 
 abbrev pub no_run : Run

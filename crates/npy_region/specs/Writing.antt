@@ -6,10 +6,8 @@ use Rattle.nd_shape.specs.Index.{IsIn, place}
 use Rattle.nd_shape.specs.Region.{Box, moved}
 use Rattle.npy_codec.specs.declared.head.Head.{Head}
 use Rattle.npy_codec.specs.Npy.{cell_bytes}
-use Rattle.npy_codec.specs.Regions.{offset_of}
-
-abbrev pub byte_at : List ℕ → ℕ → ℕ
-byte_at bytes p = get_or bytes p 0
+use Rattle.npy_codec.specs.Needed.{offset_of}
+use Rattle.npy_region.specs.Bytes.{byte_at}
 
 -- this byte belongs at this offset: it is one of the eight of an element of the block
 pub record IsByteOf (head : Head) (region : Box) (block : Array) (p b : ℕ) : Type 0 where

@@ -2,9 +2,9 @@
 ghost use Rattle.std.specs.Prelude.{◌≡◌, ◌≤◌, ◌<◌, ◌+◌, ◌*◌, ◌^◌, ◌++◌, length, drop, IfErr, OnOk, IsErrOf};
 ghost use Rattle.io_edge.specs.Cause.{Rose};
 ghost use Rattle.io_edge.specs.Content.{size_of, file_at, OnTold};
-ghost use Rattle.io_edge.specs.Given.{GivesOf, GivesOnly, IsWithin};
+ghost use Rattle.io_edge.specs.Transcript.{GivesOf, GivesOnly, IsWithin};
 ghost use Rattle.npy_codec.specs.Fronts.{IsFaultOrMemory};
-ghost use Rattle.npy_codec.specs.Regions.{IsWidth};
+ghost use Rattle.npy_codec.specs.Needed.{IsWidth};
 ghost use Rattle.npy_region.specs.Cells.{first_cells};
 
 use crate::kernels::append_cells;

@@ -1,7 +1,7 @@
 //! How elements of each type are read, with a loop of its own for each.
 ghost use Rattle.std.specs.Prelude.{◌≡◌, ◌≤◌, ◌<◌, ◌++◌, ◌/◌, true, false, length, OnOk};
 ghost use Rattle.npy_codec.specs.Npy.{wide_cell};
-ghost use Rattle.npy_codec.specs.Regions.{IsWidth};
+ghost use Rattle.npy_codec.specs.Needed.{IsWidth};
 ghost use Rattle.npy_region.specs.Cells.{first_cells};
 
 use npy_codec::Head;

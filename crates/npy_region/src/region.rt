@@ -2,13 +2,14 @@
 ghost use Rattle.std.specs.Prelude.{◌≡◌, ◌≤◌, ◌<◌, ◌+◌, ◌-◌, ◌*◌, ◌^◌, [], ℕ, length, IfOk, IfErr, OnOk, IsErrOf};
 ghost use Rattle.io_edge.specs.Cause.{Rose};
 ghost use Rattle.io_edge.specs.Content.{size_of, file_at, OnTold};
-ghost use Rattle.io_edge.specs.Given.{GivesOf, GivesOnly};
+ghost use Rattle.io_edge.specs.Transcript.{GivesOf, GivesOnly};
 ghost use Rattle.nd_shape.specs.Region.{IsPart};
 ghost use Rattle.nd_shape.specs.Shape.{elements};
 ghost use Rattle.nd_rows.specs.Storage.{count_of, spot, walk_of};
 ghost use Rattle.npy_region.specs.Cells.{AreStored, EndsWithin, InRowMajor, IsStoredByte, IsByteIn};
 ghost use Rattle.npy_codec.specs.Fronts.{IsFaultOrMemory};
-ghost use Rattle.npy_codec.specs.Regions.{HoldsRegion, IsWidth, RegionRefusedAs, needed};
+ghost use Rattle.npy_codec.specs.Regions.{HoldsRegion};
+ghost use Rattle.npy_codec.specs.Needed.{IsWidth, RegionRefusedAs, needed};
 
 use crate::cells::read_cells;
 use io_edge::Store;

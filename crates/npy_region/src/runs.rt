@@ -1,7 +1,8 @@
 //! The byte runs of a file that hold a region.
 ghost use Rattle.std.specs.Prelude.{◌≡◌, ◌≤◌, ◌<◌, ◌+◌, ◌*◌, ◌^◌, [], None, IfOk, IfSome, OnOk};
 ghost use Rattle.nd_shape.specs.Region.{IsPart};
-ghost use Rattle.npy_codec.specs.Regions.{IsWidth, number_at};
+ghost use Rattle.npy_codec.specs.Regions.{number_at};
+ghost use Rattle.npy_codec.specs.Needed.{IsWidth};
 ghost use Rattle.nd_rows.specs.Storage.{count_of, spot, stored, target, walk_of};
 ghost use Rattle.npy_region.specs.Building.{IsJoined, PutsRun, Splits};
 ghost use Rattle.npy_region.specs.Runs.{AreRuns, GoesOn};

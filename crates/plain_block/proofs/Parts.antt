@@ -11,7 +11,8 @@ use Rattle.nd_shape.proofs.Places.{place-below, index_at-place, place-index_at, 
 use Rattle.nd_shape.proofs.Axes.{IsIn-from}
 use Rattle.nd_grid.proofs.Turning.{moved-in}
 use Rattle.npy_codec.specs.declared.head.Head.{Head}
-use Rattle.npy_codec.specs.Regions.{element, needed, HoldsRegion}
+use Rattle.npy_codec.specs.Regions.{element, HoldsRegion}
+use Rattle.npy_codec.specs.Needed.{needed}
 use Rattle.input_regions.specs.Boxes.{IsInBox}
 use Rattle.plain_block.specs.Files.{IsRead}
 use Rattle.plain_block.specs.Placing.{ArePlaced, place_in}

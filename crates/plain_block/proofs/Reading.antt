@@ -11,11 +11,13 @@ use Rattle.nd_shape.specs.Region.{Box, IsPart}
 use Rattle.npy_codec.specs.declared.head.Head.{Head}
 use Rattle.npy_codec.specs.declared.error.NpyError.{NpyError}
 use Rattle.npy_codec.specs.declared.error.NpyError.TheVariants.{NotNpy, Version, HeaderLimit, Truncated, HeaderText, Descr, ShapeLimit, ReadFault, OutOfMemory}
-use Rattle.npy_codec.specs.Regions.{element, needed, EndsInside, RegionRefusedAs}
+use Rattle.npy_codec.specs.Regions.{element}
+use Rattle.npy_codec.specs.Needed.{needed, EndsInside, RegionRefusedAs}
 use Rattle.array_expr.specs.declared.expr.Node.{Node}
 use Rattle.array_expr.specs.Elem.{is_input, next_input}
 use Rattle.array_expr.specs.Node.{shape_at}
-use Rattle.plain_eval.specs.Eval.{HaveBlocks, block_at, held_in, inputs_in, inputs_before}
+use Rattle.plain_eval.specs.Eval.{HaveBlocks, inputs_in, inputs_before}
+use Rattle.plain_eval.specs.Held.{block_at, held_in}
 use Rattle.plain_eval.proofs.Arrays.{inputs-next}
 use Rattle.input_regions.specs.Boxes.{IsInRegion}
 use Rattle.input_regions.specs.Needed.{AreNeeded, region_at}

@@ -8,10 +8,12 @@ use Rattle.nd_shape.specs.Region.{Box}
 use Rattle.npy_codec.specs.declared.head.Head.{Head}
 use Rattle.npy_codec.specs.declared.error.NpyError.{NpyError}
 use Rattle.npy_codec.specs.declared.error.NpyError.TheVariants.{NotNpy, Version, HeaderLimit, Truncated, HeaderText, Descr, ShapeLimit, ReadFault, OutOfMemory}
-use Rattle.npy_codec.specs.Regions.{EndsInside, IsWidth, element, needed, no_head}
+use Rattle.npy_codec.specs.Regions.{element}
+use Rattle.npy_codec.specs.Needed.{EndsInside, IsWidth, needed, no_head}
 use Rattle.array_expr.specs.declared.expr.Node.{Node}
 use Rattle.array_expr.specs.Elem.{is_input}
-use Rattle.plain_eval.specs.Eval.{inputs_before, block_at}
+use Rattle.plain_eval.specs.Eval.{inputs_before}
+use Rattle.plain_eval.specs.Held.{block_at}
 use Rattle.input_regions.specs.Boxes.{IsInRegion}
 use Rattle.input_regions.specs.Needed.{AreNeeded, region_at}
 

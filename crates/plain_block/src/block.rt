@@ -3,7 +3,8 @@ ghost use Rattle.std.specs.Prelude.{◌≡◌, ◌≤◌, ◌<◌, ◌+◌, leng
 ghost use Rattle.io_edge.specs.Cause.{Rose};
 ghost use Rattle.nd_shape.specs.Region.{IsPart};
 ghost use Rattle.array_expr.specs.Node.{shape_at};
-ghost use Rattle.plain_eval.specs.Eval.{HaveBlocks, IsPlain, held_in, inputs_before};
+ghost use Rattle.plain_eval.specs.Eval.{HaveBlocks, IsPlain, inputs_before};
+ghost use Rattle.plain_eval.specs.Held.{held_in};
 ghost use Rattle.plain_eval.specs.declared.plain.PlainOutcome.{PlainOutcome};
 ghost use Rattle.plain_block.specs.Files.{HaveFiles, AreTold, HaveNeeded, RefusesFiles, elements_in};
 

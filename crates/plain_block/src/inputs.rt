@@ -3,7 +3,7 @@ ghost use Rattle.std.specs.Prelude.{◌≡◌, ◌≤◌, ◌<◌, ◌-◌, ◌^
 ghost use Rattle.io_edge.specs.Cause.{Rose};
 ghost use Rattle.io_edge.specs.Content.{file_at, size_of};
 ghost use Rattle.nd_shape.specs.Region.{Box, IsPart};
-ghost use Rattle.npy_codec.specs.Regions.{IsWidth, RegionRefusedAs};
+ghost use Rattle.npy_codec.specs.Needed.{IsWidth, RegionRefusedAs};
 ghost use Rattle.array_expr.specs.Node.{IsExpression};
 ghost use Rattle.array_expr.specs.Elem.{is_input};
 ghost use Rattle.input_regions.specs.Widening.{AreFit};

@@ -18,7 +18,8 @@ use Rattle.array_expr.specs.declared.expr.Node.{Node}
 use Rattle.array_expr.specs.Node.{IsExpression, shape_at, NamesNodes, NamesEarlier, Makes, IsNode, dropped, folded_axes, AreJoinable, first_shape, joined, length_on_axis, CanContract}
 use Rattle.array_expr.specs.Elem.{Cells, array_at, cells_of, formula, is_input}
 use Rattle.plain_eval.specs.Fits.{CanPair, CanChoose, CanTake, CanTurn, CanJoin, CanContractKnown, shapes_known}
-use Rattle.plain_eval.specs.Eval.{HaveShapes, HaveBlocks, MadeOf, block_at, held_in, inputs_before}
+use Rattle.plain_eval.specs.Eval.{HaveShapes, HaveBlocks, MadeOf, inputs_before}
+use Rattle.plain_eval.specs.Held.{block_at, held_in}
 use Rattle.plain_eval.proofs.Known.{shape-known, there-known}
 use Rattle.plain_eval.proofs.Fitting.{transposes, takes-fit}
 use Rattle.plain_eval.proofs.Concatenated.{first-same}

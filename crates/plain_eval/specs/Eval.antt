@@ -1,7 +1,6 @@
 -- The arrays of an expression's nodes over inputs that are blocks.
-use Rattle.std.specs.Prelude.{◌≡◌, ℕ, ◌<◌, List, [], ◌∷◌, length, map, take, ℤ, pos, slice_index_or, slice_get, Some, true}
+use Rattle.std.specs.Prelude.{◌≡◌, ℕ, ◌<◌, List, [], ◌∷◌, length, map, take, ℤ, slice_get, Some, true}
 use Rattle.nd_shape.specs.Block.{Array}
-use Rattle.nd_shape.specs.Index.{place}
 use Rattle.array_expr.specs.declared.expr.Node.{Node}
 use Rattle.array_expr.specs.Node.{shapes_of}
 use Rattle.std.specs.Prelude.{Ok, Err}
@@ -10,13 +9,7 @@ use Rattle.nd_grid.specs.Grid.{Grid, part, block_of}
 use Rattle.plain_eval.specs.declared.plain.PlainOutcome.{PlainOutcome}
 use Rattle.plain_eval.specs.declared.plain.PlainOutcome.TheVariants.{Values, Zero}
 use Rattle.array_expr.specs.Elem.{Cells, array_at, cells_of, formula, is_input, next_input, arrays}
-
-abbrev pub block_at : List Array → ℕ → Array
-block_at blocks j = slice_index_or blocks j (record { shape = []; cells = [] })
-
--- the elements of each input, by its number
-abbrev pub held_in : List Array → ℕ → List ℕ → ℤ
-held_in blocks j i = slice_index_or (block_at blocks j).cells (place (block_at blocks j).shape i) (pos 0)
+use Rattle.plain_eval.specs.Held.{block_at}
 
 -- the number of the next input after these nodes, where j is the first one's
 abbrev pub inputs_in : ℕ → List Node → ℕ

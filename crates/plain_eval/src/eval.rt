@@ -4,7 +4,8 @@ ghost use Rattle.nd_grid.specs.Grid.{sliced, sliced_shape, reduced, kept_shape, 
 ghost use Rattle.array_expr.specs.Node.{IsExpression, dropped};
 ghost use Rattle.array_expr.specs.Elem.{array_at, cells_of};
 ghost use Rattle.plain_eval.specs.Fits.{CanTake, CanContractKnown};
-ghost use Rattle.plain_eval.specs.Eval.{HaveShapes, HaveBlocks, MadeOf, inputs_before, held_in};
+ghost use Rattle.plain_eval.specs.Eval.{HaveShapes, HaveBlocks, MadeOf, inputs_before};
+ghost use Rattle.plain_eval.specs.Held.{held_in};
 
 use crate::contraction::Contraction;
 use crate::held::{Held, dims_of};

@@ -4,7 +4,8 @@ ghost use Rattle.nd_shape.specs.Region.{IsPart};
 ghost use Rattle.array_expr.specs.Node.{IsExpression, shape_at};
 ghost use Rattle.array_expr.specs.Elem.{array_at, arrays, next_input};
 ghost use Rattle.plain_eval.specs.Fits.{CanCut};
-ghost use Rattle.plain_eval.specs.Eval.{HaveBlocks, HaveShapes, IsPlain, IsPartOf, held_in};
+ghost use Rattle.plain_eval.specs.Eval.{HaveBlocks, HaveShapes, IsPlain, IsPartOf};
+ghost use Rattle.plain_eval.specs.Held.{held_in};
 
 use crate::eval::node_array;
 use crate::held::Held;

@@ -1,6 +1,6 @@
 -- Which plans the program runs.
 use Rattle.std.specs.Prelude.{◌*◌, ◌<◌, ◌≤◌}
-use Rattle.node_runner.specs.Runs.{numbers}
+use Rattle.node_runner.specs.Books.{numbers}
 use Rattle.node_runner.specs.declared.plan.RunPlan.{RunPlan}
 
 -- a plan that a run takes: a root task goes to a worker that is less than full, each worker has threads, and there are few of all

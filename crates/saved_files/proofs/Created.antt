@@ -7,14 +7,16 @@ use Rattle.std.proofs.lemmas.List.Edits.{length-paste}
 use Rattle.std.proofs.lemmas.Slice.Eq.{bytes_eq-Decides}
 use Rattle.std.proofs.Math.Seq.{paste}
 use Rattle.io_edge.specs.Content.{Content, OnTold, overwritten, size_of, told_bytes, zeros, WritesPart}
-use Rattle.io_edge.specs.View.{Files, updated}
+use Rattle.io_edge.specs.View.{Files}
+use Rattle.io_edge.specs.Calls.{updated}
 use Rattle.io_edge.proofs.Pieces.{size_of-overwritten}
 use Rattle.nd_shape.specs.Block.{Array}
 use Rattle.nd_shape.specs.Shape.{elements}
 use Rattle.npy_codec.specs.Npy.{header}
-use Rattle.npy_region.specs.Writing.{byte_at}
+use Rattle.npy_region.specs.Bytes.{byte_at}
 use Rattle.npy_region.proofs.WriteLemmas.{patched}
-use Rattle.saved_files.specs.Filling.{IsFilling, IsPart, file_of}
+use Rattle.saved_files.specs.Filling.{IsFilling, file_of}
+use Rattle.saved_files.specs.Left.{IsPart}
 use Rattle.saved_files.specs.declared.open.OpenFile.{OpenFile}
 use Rattle.saved_files.specs.Kept.{IsKept, begun_with}
 use Rattle.saved_files.specs.Saving.{IsFresh, IsOf, LeavesOne, Saving}

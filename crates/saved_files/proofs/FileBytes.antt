@@ -6,7 +6,7 @@ use Rattle.nd_shape.specs.Index.{IsIn, place}
 use Rattle.nd_shape.specs.Shape.{elements}
 use Rattle.nd_shape.proofs.Places.{place-below}
 use Rattle.npy_codec.specs.Npy.{cell_bytes, cells_bytes, header}
-use Rattle.npy_region.specs.Writing.{byte_at}
+use Rattle.npy_region.specs.Bytes.{byte_at}
 use Rattle.npy_region.proofs.WriteLemmas.{byte_of_cells}
 use Rattle.saved_files.specs.Filling.{file_of, spot}
 use Rattle.npy_codec.proofs.WrittenFiles.{length-cells_bytes}

@@ -8,7 +8,7 @@ use Rattle.nd_shape.specs.Region.{Box, moved}
 use Rattle.nd_shape.specs.Shape.{elements}
 use Rattle.nd_shape.proofs.Places.{index_at-in, place-index_at}
 use Rattle.npy_codec.specs.Npy.{header}
-use Rattle.npy_region.specs.Writing.{byte_at}
+use Rattle.npy_region.specs.Bytes.{byte_at}
 use Rattle.saved_files.specs.Filling.{Cover, IsFilling, box_of, file_of}
 use Rattle.saved_files.proofs.FileBytes.{length-file}
 

@@ -7,7 +7,8 @@ use Rattle.std.proofs.lemmas.Slice.Eq.{bytes_eq-Decides}
 use Rattle.io_edge.specs.Cause.{Rose, TakesFaults}
 use Rattle.io_edge.specs.Content.{told_bytes}
 use Rattle.io_edge.proofs.Only.{writes_none, writes_then}
-use Rattle.io_edge.specs.View.{Files, OnlyWrites, View, updated}
+use Rattle.io_edge.specs.View.{Files, View}
+use Rattle.io_edge.specs.Calls.{OnlyWrites, updated}
 use Rattle.saved_files.specs.Saving.{GivesBack, Saving, TakesAll, WereCreated, saving_at}
 use Rattle.saved_files.proofs.Places.{at_item, at_new, at_old, last_place}
 

@@ -17,10 +17,11 @@ use Rattle.nd_shape.specs.Region.{Box, moved}
 use Rattle.nd_rows.proofs.Turns.{split}
 use Rattle.npy_codec.specs.declared.head.Head.{Head}
 use Rattle.npy_codec.specs.Npy.{cell_bytes, cells_bytes}
-use Rattle.npy_codec.specs.Regions.{offset_of}
+use Rattle.npy_codec.specs.Needed.{offset_of}
 use Rattle.npy_region.specs.declared.runs.Run.{Run}
 use Rattle.npy_region.specs.Runs.{AreRuns, no_run}
-use Rattle.npy_region.specs.Writing.{byte_at, IsByteOf, IsOutside, Turns, WritesRegion, WritesSome}
+use Rattle.npy_region.specs.Writing.{IsByteOf, IsOutside, Turns, WritesRegion, WritesSome}
+use Rattle.npy_region.specs.Bytes.{byte_at}
 use Rattle.saved_files.specs.Filling.{box_of}
 use Rattle.saved_files.specs.Rows.{block_at, runs_at, row_bytes, run_cells, AreFull, ArePlaced, HasRow, AreSideBySide, IsByteOfOne, WritesAll, WritesSomeOf}
 use Rattle.npy_region.proofs.WriteLemmas.{AreEights, RunFits, StandsAt, byte_of_cells, eights, flat_bytes, patched, run_fits}

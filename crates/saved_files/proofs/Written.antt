@@ -10,14 +10,16 @@ use Rattle.nd_shape.specs.Block.{Array}
 use Rattle.nd_shape.specs.Index.{IsIn, place}
 use Rattle.nd_shape.specs.Region.{Box, moved}
 use Rattle.nd_shape.specs.Shape.{elements}
-use Rattle.nd_rows.specs.Storage.{place_by}
+use Rattle.nd_rows.specs.Places.{place_by}
 use Rattle.nd_rows.proofs.Spots.{moved-in}
 use Rattle.npy_codec.specs.declared.head.Head.{Head}
 use Rattle.npy_codec.specs.Npy.{cell_bytes, header}
-use Rattle.npy_codec.specs.Regions.{offset_of}
-use Rattle.npy_region.specs.Writing.{byte_at, IsByteOf, Turns, WritesRegion, WritesSome}
+use Rattle.npy_codec.specs.Needed.{offset_of}
+use Rattle.npy_region.specs.Writing.{IsByteOf, Turns, WritesRegion, WritesSome}
+use Rattle.npy_region.specs.Bytes.{byte_at}
 use Rattle.saved_files.specs.Rows.{block_at, WritesAll, WritesSomeOf}
-use Rattle.saved_files.specs.Filling.{HoldsBox, IsFilling, IsPart, box_of, file_of, spot}
+use Rattle.saved_files.specs.Filling.{HoldsBox, IsFilling, box_of, file_of, spot}
+use Rattle.saved_files.specs.Left.{IsPart}
 use Rattle.saved_files.specs.Saving.{FillsAll, FillsMore, FillsPart, FillsSome, HoldsBoxes, Saving}
 use Rattle.saved_files.proofs.FileBytes.{element_byte, length-file, past_both}
 use Rattle.npy_region.proofs.WriteLemmas.{size-turns}

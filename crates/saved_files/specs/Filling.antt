@@ -1,21 +1,17 @@
 -- The file of an array while its blocks are written, in any order.
-use Rattle.std.specs.Prelude.{◌≡◌, ◌⊎◌, ◌<◌, ◌+◌, ◌*◌, ℕ, pos, List, [], length, get_or, slice_index_or}
+use Rattle.std.specs.Prelude.{◌≡◌, ◌<◌, ◌+◌, ◌*◌, ℕ, pos, List, [], length, get_or, slice_index_or}
 use Rattle.nd_shape.specs.Block.{Array}
 use Rattle.nd_shape.specs.Index.{IsIn, place}
 use Rattle.nd_shape.specs.Region.{Box, moved}
 use Rattle.nd_shape.specs.Region.{IsPart as LiesIn}
 use Rattle.nd_shape.specs.Shape.{elements}
 use Rattle.npy_codec.specs.Npy.{header, npy}
-use Rattle.npy_region.specs.Writing.{byte_at}
+use Rattle.npy_region.specs.Bytes.{byte_at}
+use Rattle.saved_files.specs.Left.{IsPart}
 
 -- the file of an array
 abbrev pub file_of : Array → List ℕ
 file_of a = npy a.shape a.cells
-
--- each byte is the right one for its place, or 0
-pub record IsPart (bytes final : List ℕ) : Type 0 where
-  pub size : length bytes ≡ length final
-  pub each : (p : ℕ) → p < length final → (byte_at bytes p ≡ 0) ⊎ (byte_at bytes p ≡ byte_at final p)
 
 abbrev pub box_of : List Box → ℕ → Box
 box_of boxes k = slice_index_or boxes k (record { start = []; lengths = [] })

@@ -1,4 +1,5 @@
 pub mod Filling
 pub mod Kept
+pub mod Left
 pub mod Rows
 pub mod Saving

@@ -11,7 +11,8 @@ use Rattle.npy_codec.specs.declared.head.Head.{Head}
 use Rattle.npy_codec.specs.Npy.{cells_bytes}
 use Rattle.npy_region.specs.declared.runs.Run.{Run}
 use Rattle.npy_region.specs.Runs.{no_run}
-use Rattle.npy_region.specs.Writing.{byte_at, IsByteOf, IsOutside}
+use Rattle.npy_region.specs.Writing.{IsByteOf, IsOutside}
+use Rattle.npy_region.specs.Bytes.{byte_at}
 use Rattle.saved_files.specs.Filling.{box_of}
 
 -- the block at a place of a list of shared ones

@@ -1,5 +1,5 @@
--- Files that are being saved: what they hold so far, and what is left of them at a site.
-use Rattle.std.specs.Prelude.{◌≡◌, ◌≢◌, ◌⊎◌, ◌<◌, ℕ, List, [], ◌∷◌, ◌++◌, length, slice_index_or, bytes_eq, false, IfSome, IsSome, IsTrue, Bool}
+-- Files that are being saved, and what they hold so far.
+use Rattle.std.specs.Prelude.{◌≡◌, ◌≢◌, ◌<◌, ℕ, List, [], ◌∷◌, ◌++◌, length, slice_index_or, bytes_eq, false, IsSome, IsTrue, Bool}
 use Rattle.std.specs.declared.sync.Arc.{Arc}
 use Rattle.std.specs.declared.alloc.Global.{Global}
 use Rattle.io_edge.specs.Cause.{Rose}
@@ -10,7 +10,8 @@ use Rattle.nd_shape.specs.Shape.{elements}
 use Rattle.nd_shape.specs.Region.{Box}
 use Rattle.npy_region.specs.Writing.{Turns}
 use Rattle.saved_files.specs.Rows.{block_at}
-use Rattle.saved_files.specs.Filling.{IsFilling, HoldsBox, IsPart, box_of, file_of}
+use Rattle.saved_files.specs.Filling.{IsFilling, HoldsBox, box_of, file_of}
+use Rattle.saved_files.specs.Left.{IsLeft}
 
 -- an open file: its name, the lengths of its array, what it holds, and how often a call of it has failed
 pub record Saving : Type 0 where
@@ -34,11 +35,6 @@ pub record IsFresh (tells : Bool) (name dims : List ℕ) (s : Saving) : Type 0 w
   pub faults_are : s.faults ≡ 0
   pub told : IsTrue tells → IsSome (told_bytes s.content)
   pub filling : OnTold s.content (λ bytes. (a : Array) → IsOf dims a → IsFilling a [] bytes)
-
--- the file of this name is as it was, or each of its bytes is right or 0, and a site that tells does tell it
-abbrev pub IsLeft : List ℕ → List ℕ → Files → Files → Type 0
-IsLeft name bytes old new = (new.held name ≡ old.held name)
-    ⊎ (IfSome (new.held name) (λ held. IsPart held bytes) × (IsTrue old.tells → IsSome (new.held name)))
 
 -- one file may have changed, and is left so, whatever array of these lengths was to be saved
 pub record LeavesOne (name dims : List ℕ) (old new : Files) : Type 0 where

@@ -1,7 +1,8 @@
 //! Files that are being saved.
 ghost use Rattle.std.specs.Prelude.{◌≡◌, ◌<◌, ◌≤◌, ◌+◌, ◌∷◌, [], ℕ, length, OnOk, OnErr, IsErrOf, None};
 ghost use Rattle.io_edge.specs.Cause.{HasOpenCause};
-ghost use Rattle.io_edge.specs.View.{Creates, OnlyWrites, raised_by, updated};
+ghost use Rattle.io_edge.specs.View.{raised_by};
+ghost use Rattle.io_edge.specs.Calls.{Creates, OnlyWrites, updated};
 ghost use Rattle.nd_shape.specs.Region.{IsPart};
 ghost use Rattle.saved_files.specs.Rows.{ArePlaced};
 ghost use Rattle.saved_files.specs.Saving.{ChangesAt, FillsAll, FillsMore, FillsPart, FillsSome, GivesBack, IsFresh, LeavesOne, TakesAll, WereCreated, saving_at};

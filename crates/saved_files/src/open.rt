@@ -1,7 +1,8 @@
 //! Open files, one by one.
 ghost use Rattle.std.specs.Prelude.{◌≡◌, ◌<◌, ◌≤◌, ◌∷◌, [], length, map, OnOk, OnErr, IfOk, IsErrOf, None};
 ghost use Rattle.io_edge.specs.Cause.{HasOpenCause};
-ghost use Rattle.io_edge.specs.View.{Creates, OnlyWrites, raised_by, updated};
+ghost use Rattle.io_edge.specs.View.{raised_by};
+ghost use Rattle.io_edge.specs.Calls.{Creates, OnlyWrites, updated};
 ghost use Rattle.nd_shape.specs.Region.{IsPart};
 ghost use Rattle.npy_codec.specs.Npy.{header};
 ghost use Rattle.saved_files.specs.Rows.{ArePlaced};

@@ -2,10 +2,12 @@
 use Rattle.std.proofs.Common.{◌≡◌, ℕ, List, refl, ap, sym, ◌∙◌, subst, inl, inr, arith, Option}
 use Rattle.std.specs.Prelude.{IsSome, IsTrue}
 use Rattle.io_edge.specs.Cause.{Rose}
-use Rattle.io_edge.specs.Content.{Content, Told, Untold, OnTold, PrintsPart, file_at, followed_by, told_bytes}
-use Rattle.io_edge.specs.Given.{GivesMore}
+use Rattle.io_edge.specs.Content.{Content, Told, Untold, OnTold, file_at, told_bytes}
+use Rattle.io_edge.specs.Printing.{PrintsPart, followed_by}
+use Rattle.io_edge.specs.Transcript.{GivesMore}
 use Rattle.io_edge.proofs.GivenLaws.{more_same, more_then}
-use Rattle.io_edge.specs.View.{View, Files, OnlyOut, OnlyReads, Opens, raised_by}
+use Rattle.io_edge.specs.View.{View, Files, raised_by}
+use Rattle.io_edge.specs.Calls.{OnlyOut, OnlyReads, Opens}
 use Rattle.npy_codec.specs.declared.head.Head.{Head}
 use Rattle.cluster_msgs.specs.declared.events.Report.{Report}
 use Rattle.cluster_rules.specs.World.{Job}
@@ -16,7 +18,8 @@ use Rattle.job_run.specs.Inputs.{told_all}
 use Rattle.job_run.specs.Lowering.{LowerCause}
 use Rattle.job_run.specs.Part.{AreLeft, AreWhole, IsNoneOf, RaisedAtMost}
 use Rattle.job_run.specs.Plan.{Plan, names_saved}
-use Rattle.job_run.specs.Runs.{AreRight, AreSaved, HasValues, IsSmall, Looked, PrintsFront, ReadCause, RunsPlan, StopsPrinting}
+use Rattle.job_run.specs.Runs.{AreRight, AreSaved, HasValues, IsSmall, Looked, PrintsFront, StopsPrinting}
+use Rattle.job_run.specs.Evaluation.{ReadCause, RunsPlan}
 use Rattle.job_run.specs.Told.{named_told}
 use Rattle.job_run.specs.Values.{IsFaulty, MeetsNone, files_of}
 use Rattle.job_run.proofs.Counting.{raised_at_most}
@@ -26,7 +29,8 @@ use Rattle.job_run.proofs.Told.{on_told, told_fact}
 use Rattle.command_words.specs.declared.sim.SimWords.{SimWords}
 use Rattle.sim_run.specs.declared.ends.SimEnded.{SimEnded}
 use Rattle.sim_run.specs.declared.ends.SimEnded.TheVariants.{Events, Ran}
-use Rattle.sim_run.specs.Ends.{Cause, Created, Opened, PrintsServed, Prints, RanCause, RanCreated, RanPrints, RanSaves, Saves, SavesPlan, SimulatesPlan, WhereTold}
+use Rattle.sim_run.specs.Ends.{Cause, Created, PrintsServed, Prints, RanCause, RanCreated, RanPrints, RanSaves, Saves, WhereTold}
+use Rattle.sim_run.specs.Running.{Opened, SavesPlan, SimulatesPlan}
 use Rattle.sim_run.specs.Jobs.{IsTextJob, wanted_of}
 use Rattle.sim_run.specs.Serving.{ServesAll, ServesFiles, ServesPart, job_named}
 use Rattle.sim_run.specs.Simulated.{IsKilled, IsOutOfEvents, IsServed, SimulatesTo}

@@ -2,7 +2,8 @@
 use Rattle.std.proofs.Common.{◌≡◌, ℕ, ◌<◌, ap, refl, sym, ◌∙◌, subst, arith}
 use Rattle.io_edge.specs.Cause.{Rose, TakesFaults}
 use Rattle.io_edge.proofs.GivenLaws.{more_around}
-use Rattle.io_edge.specs.View.{Files, OnlyReads, View}
+use Rattle.io_edge.specs.View.{Files, View}
+use Rattle.io_edge.specs.Calls.{OnlyReads}
 use Rattle.cluster_msgs.specs.declared.events.Report.{Report}
 use Rattle.job_run.specs.declared.ends.Ended.TheVariants.{Done, Limit, File, Zero, Killed, ReadFault, WriteFault, OutOfMemory}
 use Rattle.job_run.specs.Plan.{Plan}

@@ -9,11 +9,12 @@ use Rattle.cluster_world.specs.declared.state.State.{State}
 use Rattle.cluster_world.specs.Worlds.{IsMade, cluster, setting, world}
 use Rattle.cluster_sim.specs.Openings.{AreWanted}
 use Rattle.cluster_sim.specs.Faults.{IsNeededFault}
-use Rattle.cluster_sim.specs.Simulations.{HasAll}
+use Rattle.cluster_sim.specs.Endings.{HasAll}
 use Rattle.task_graph.specs.Graphs.{operation, shape_of, task_at, value}
 use Rattle.lowering_laws.specs.Lowered.{lowered}
 use Rattle.lowering_laws.specs.Named.{layout_of}
-use Rattle.lowering_laws.specs.Faults.{DividesByZero, IsZeroDivide}
+use Rattle.lowering_laws.specs.Faults.{DividesByZero}
+use Rattle.lowering_laws.specs.FaultLaws.{IsZeroDivide}
 use Rattle.lowering_laws.specs.Whole.{saved_key}
 use Rattle.lowering_laws.proofs.Limits.{limits-law}
 use Rattle.lowering_laws.proofs.Runs.{order-law}

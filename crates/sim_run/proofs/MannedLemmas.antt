@@ -25,11 +25,13 @@ use Rattle.cluster_sim.proofs.WorldKeeps.{joins, world_keeps}
 use Rattle.cluster_sim.proofs.CourseLemmas.{moved_world}
 use Rattle.cluster_sim.proofs.NextLemmas.{progress_is}
 use Rattle.cluster_sim.specs.Led.{any_job, Made, one_left, after_next, next_of, LedTo, at_first, IsLeftAlone}
-use Rattle.cluster_sim.specs.Simulations.{IsSimulated, IsDeserted}
+use Rattle.cluster_sim.specs.Simulations.{IsSimulated}
+use Rattle.cluster_sim.specs.Endings.{IsDeserted}
 use Rattle.command_words.specs.Walks.{Crew, without, joined, after_item, after_items, crew_of, TakesOneOf, IsItemAt}
 use Rattle.command_words.specs.declared.sim.SimWords.{SimWords}
 use Rattle.command_words.proofs.Walking.{after_more}
-use Rattle.sim_run.specs.Simulated.{sim_plan, LeavesSomebody}
+use Rattle.sim_run.specs.Simulated.{sim_plan}
+use Rattle.sim_run.specs.Leaving.{LeavesSomebody}
 
 -- ## Who is there
 

@@ -18,15 +18,16 @@ use Rattle.cluster_world.specs.declared.state.State.{State}
 use Rattle.cluster_world.specs.Worlds.{IsMade, cluster, setting, world}
 use Rattle.cluster_sim.proofs.ActLemmas.{setting-world}
 use Rattle.cluster_sim.specs.Plans.{IsPlan, joins_in as plan_joins}
-use Rattle.cluster_sim.specs.Simulations.{HasAll}
+use Rattle.cluster_sim.specs.Endings.{HasAll}
 use Rattle.task_graph.specs.Graphs.{shape_of, value}
 use Rattle.lowering_laws.specs.Lowered.{lowered, source_at, lowering}
-use Rattle.lowering_laws.specs.Named.{LawOfNames}
+use Rattle.lowering_laws.specs.NameLaws.{LawOfNames}
 use Rattle.lowering_laws.specs.Whole.{saved_key}
 use Rattle.lowering_laws.proofs.NamesLaw.{names-law}
 use Rattle.command_words.specs.declared.sim.SimWords.{SimWords}
 use Rattle.command_words.specs.Walks.{joins_in}
-use Rattle.sim_run.specs.Simulated.{AreSettings, sim_plan}
+use Rattle.sim_run.specs.Simulated.{sim_plan}
+use Rattle.sim_run.specs.Leaving.{AreSettings}
 use Rattle.job_run.proofs.Reached.{all-valued}
 use Rattle.sim_run.proofs.Wanted.{flat, in-flat}
 

@@ -19,7 +19,8 @@ use Rattle.cluster_world.specs.declared.state.State.{State}
 use Rattle.cluster_world.specs.Worlds.{cluster, world}
 use Rattle.cluster_sim.specs.Acts.{CountsSim}
 use Rattle.cluster_sim.specs.Drawn.{word_of}
-use Rattle.cluster_sim.specs.Faults.{key_of, IfBlamed, IsBounded, IsKill, IsNeededFault, IsNeededKilled}
+use Rattle.cluster_sim.specs.Faults.{key_of, IfBlamed, IsBounded, IsNeededFault, IsNeededKilled}
+use Rattle.cluster_sim.specs.Kills.{IsKill}
 use Rattle.cluster_sim.specs.Simulations.{IsReported, IsSimulated, IsUnfinished}
 use Rattle.cluster_sim.specs.declared.act.SimError.{SimError}
 use Rattle.cluster_sim.specs.declared.act.SimError.TheVariants as sim
@@ -28,7 +29,7 @@ use Rattle.cluster_sim.specs.declared.ended.Fault.TheVariants as faults
 use Rattle.task_graph.specs.Graphs.{operation, shape_of, value}
 use Rattle.lowering_laws.specs.Lowered.{lowered}
 use Rattle.lowering_laws.specs.Named.{layout_of}
-use Rattle.saved_files.specs.Saving.{IsLeft}
+use Rattle.saved_files.specs.Left.{IsLeft}
 use Rattle.job_run.specs.declared.ends.Ended.{Ended}
 use Rattle.job_run.specs.declared.ends.Ended.TheVariants.{Done, Limit, File, Zero, Killed, ReadFault, WriteFault, OutOfMemory}
 use Rattle.job_run.specs.Evaluating.{HasLaws, array_at}

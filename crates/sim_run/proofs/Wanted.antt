@@ -20,7 +20,8 @@ use Rattle.task_graph.specs.declared.graph.Task.{Task}
 use Rattle.task_graph.specs.Graphs.{shape_of}
 use Rattle.lowering_laws.specs.Law.{HaveChunks}
 use Rattle.lowering_laws.specs.Lowered.{lowered}
-use Rattle.lowering_laws.specs.Named.{LawOfNames, layout_of}
+use Rattle.lowering_laws.specs.Named.{layout_of}
+use Rattle.lowering_laws.specs.NameLaws.{LawOfNames}
 use Rattle.lowering_laws.specs.Whole.{LawOfOrder, saved_key}
 use Rattle.lowering_laws.proofs.NamesLaw.{names-law}
 use Rattle.lowering_laws.proofs.Order.{lowering-order}

@@ -2,7 +2,7 @@
 use Rattle.std.specs.Prelude.{◌≡◌, ℕ, List}
 use Rattle.std.specs.List.{flat_map}
 use Rattle.io_edge.specs.View.{Files}
-use Rattle.plain_eval.specs.Eval.{held_in}
+use Rattle.plain_eval.specs.Held.{held_in}
 use Rattle.cluster_rules.specs.World.{Job}
 use Rattle.task_graph.specs.Graphs.{operation, shape_of}
 use Rattle.lowering_laws.specs.Lowered.{lowered}

@@ -1,11 +1,12 @@
 -- What the private functions answer of a simulation over open inputs.
 use Rattle.std.specs.Prelude.{◌≡◌, ◌≤◌, ℕ, List, IsTrue, map, Some}
-use Rattle.io_edge.specs.Given.{GivesMore}
-use Rattle.io_edge.specs.View.{View, Files, OnlyWrites, raised_by}
+use Rattle.io_edge.specs.Transcript.{GivesMore}
+use Rattle.io_edge.specs.View.{View, Files, raised_by}
+use Rattle.io_edge.specs.Calls.{OnlyWrites}
 use Rattle.cluster_msgs.specs.declared.events.Report.{Report}
 use Rattle.cluster_rules.specs.World.{Job}
 use Rattle.task_graph.specs.Graphs.{operation, shape_of}
-use Rattle.cluster_sim.specs.Faults.{IsKill}
+use Rattle.cluster_sim.specs.Kills.{IsKill}
 use Rattle.cluster_sim.specs.declared.act.SimError.{SimError}
 use Rattle.cluster_sim.specs.declared.act.SimError.TheVariants as sim
 use Rattle.lowering_laws.specs.Lowered.{lowered}

@@ -1,5 +1,5 @@
 -- What is simulated, and how that ends: the events that the number draws, over any job and any keys that are wanted of it.
-use Rattle.std.specs.Prelude.{◌≡◌, ◌≤◌, ℕ, true, List, Option, Some, None, length, take}
+use Rattle.std.specs.Prelude.{◌≡◌, ℕ, true, List, Option, Some, None}
 use Rattle.cluster_msgs.specs.Shape.{Shape, deps_of}
 use Rattle.cluster_msgs.specs.Values.{needed}
 use Rattle.cluster_msgs.specs.declared.events.Event.{Event}
@@ -10,22 +10,7 @@ use Rattle.cluster_sim.specs.Drawn.{word_of}
 use Rattle.cluster_sim.specs.Simulations.{IsSimulated, IsReported, IsUnfinished}
 use Rattle.cluster_rules.specs.Runs.{killed, event_limit}
 use Rattle.cluster_laws.specs.Blocks.{job_of, setting_of}
-use Rattle.cluster_msgs.specs.declared.events.Item.{Item}
-use Rattle.command_words.specs.Walks.{joins_in, crew_of, after_items, TakesOneOf, IsItemAt}
 use Rattle.command_words.specs.declared.sim.SimWords.{SimWords}
-
--- a script that leaves a worker at every point: each worker that an item takes away is there
-pub record LeavesSomebody (workers : ℕ) (items : List Item) : Type 0 where
-  pub takes : (i : ℕ) (item : Item) → IsItemAt items i item → TakesOneOf (after_items (crew_of workers) (take i items)) item
-  pub some : (i : ℕ) → i ≤ length items → 1 ≤ length (after_items (crew_of workers) (take i items)).there
-
--- settings that can be followed: with 1 to 64 workers at the start and at most 64 more by the script, of 1 to 16 threads each, and never without one
-pub record AreSettings (s : SimWords) : Type 0 where
-  pub workers : (1 ≤ s.settings.workers) × (s.settings.workers ≤ 64)
-  pub threads : (1 ≤ s.settings.threads) × (s.settings.threads ≤ 16)
-  pub saturation : (1 ≤ s.settings.saturation) × (s.settings.saturation ≤ 1000)
-  pub joins : joins_in s.script ≤ 64
-  pub manned : LeavesSomebody s.settings.workers s.script
 
 -- the workers at the start, their threads, and the script
 abbrev pub sim_plan : SimWords → SimPlan

@@ -3,9 +3,10 @@ ghost use Rattle.std.specs.Prelude.{ℕ, List};
 ghost use Rattle.cluster_rules.specs.World.{Job, World};
 ghost use Rattle.cluster_rules.specs.Sched.{Setting};
 ghost use Rattle.cluster_sim.specs.Led.{IsLeftAlone};
-ghost use Rattle.cluster_sim.specs.Simulations.{IsDeserted};
+ghost use Rattle.cluster_sim.specs.Endings.{IsDeserted};
 ghost use Rattle.command_words.specs.declared.sim.SimWords.{SimWords};
-ghost use Rattle.sim_run.specs.Simulated.{sim_plan, LeavesSomebody};
+ghost use Rattle.sim_run.specs.Simulated.{sim_plan};
+ghost use Rattle.sim_run.specs.Leaving.{LeavesSomebody};
 
 /// A script that leaves a worker at every point leaves none stuck, whatever its feed answers: a simulation could be so only where
 /// nobody is alive and connected.

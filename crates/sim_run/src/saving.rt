@@ -1,7 +1,8 @@
 //! The blocks that the client of a simulation got, written into the files of a job's saves.
 ghost use Rattle.std.specs.Prelude.{◌≡◌, ◌<◌, ◌≤◌, ℕ, List, length, OnOk, OnErr, IsErrOf};
 ghost use Rattle.io_edge.specs.Cause.{Rose};
-ghost use Rattle.io_edge.specs.View.{OnlyWrites, raised_by};
+ghost use Rattle.io_edge.specs.View.{raised_by};
+ghost use Rattle.io_edge.specs.Calls.{OnlyWrites};
 ghost use Rattle.chunk_layout.specs.Layouts.{lengths};
 ghost use Rattle.block_lowering.specs.Jobs.{dims_of};
 ghost use Rattle.cluster_world.specs.Worlds.{cluster as cluster_of};

@@ -13,7 +13,7 @@ ghost use Rattle.job_run.specs.Lowering.{IsGraphOf};
 ghost use Rattle.job_run.specs.Plan.{IsRunnable, input_shapes};
 ghost use Rattle.job_run.specs.Values.{tasks_of};
 ghost use Rattle.sim_run.specs.Serving.{EndsAtKey, IsWantedOf, SavesFiles, ServesAll, ServesFiles, ServesPart, IsEndOf};
-ghost use Rattle.sim_run.specs.Simulated.{AreSettings};
+ghost use Rattle.sim_run.specs.Leaving.{AreSettings};
 
 use crate::ends::SimEnded;
 use crate::saving::{CLIENT, save_all};

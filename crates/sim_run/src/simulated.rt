@@ -2,8 +2,8 @@
 ghost use Rattle.std.specs.Prelude.{IfOk, IfErr};
 ghost use Rattle.job_run.specs.Jobs.{plan_of};
 ghost use Rattle.job_run.specs.Plan.{IsRunnable};
-ghost use Rattle.sim_run.specs.Ends.{SavesPlan, SimulatesPlan};
-ghost use Rattle.sim_run.specs.Simulated.{AreSettings};
+ghost use Rattle.sim_run.specs.Running.{SavesPlan, SimulatesPlan};
+ghost use Rattle.sim_run.specs.Leaving.{AreSettings};
 
 use crate::ends::SimEnded;
 use crate::lines::lines;

@@ -1,6 +1,6 @@
 //! Heads and regions of arrays' files.
 ghost use Rattle.std.specs.Prelude.{◌≡◌, ◌≤◌, ◌<◌, ◌^◌, length};
-ghost use Rattle.npy_codec.specs.Regions.{IsWidth};
+ghost use Rattle.npy_codec.specs.Needed.{IsWidth};
 
 use crate::say::say;
 use crate::words::{Trouble, number};

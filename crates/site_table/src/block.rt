@@ -4,7 +4,7 @@ ghost use Rattle.io_edge.specs.Content.{Content};
 ghost use Rattle.nd_shape.specs.Region.{IsPart};
 ghost use Rattle.array_expr.specs.Elem.{is_input, next_input};
 ghost use Rattle.array_expr.specs.Node.{shape_at};
-ghost use Rattle.npy_codec.specs.Regions.{IsWidth};
+ghost use Rattle.npy_codec.specs.Needed.{IsWidth};
 ghost use Rattle.plain_block.specs.Files.{HaveFiles, head_at};
 
 use crate::arrays::{print_cells, region_of, say_refusal};

@@ -31,12 +31,13 @@ use Rattle.cluster_rules.specs.Derived.{is_in}
 use Rattle.cluster_rules.specs.Sched.{Facts}
 use Rattle.cluster_rules.specs.Worker.{Ask, WorkerFacts, ask_to, new_worker}
 use Rattle.journal_audit.specs.Audits.{IsLegalJournal, events_of}
-use Rattle.journal_audit.specs.Clients.{Gets, client_after, client_run, is_client, is_own, own_entries, told_client}
+use Rattle.journal_audit.specs.Clients.{client_after, client_run, is_client, is_own, own_entries, told_client}
+use Rattle.journal_audit.specs.Got.{Gets}
 use Rattle.journal_audit.specs.Merges.{IsMerge}
 use Rattle.journal_audit.proofs.ClientLemmas.{client_got}
 use Rattle.journal_audit.proofs.MergeLemmas.{own_of_merge}
 use Rattle.turn_cell.specs.Histories.{AllAbove, Ascending, Replays}
-use Rattle.turn_cell.specs.Rows.{AllBy}
+use Rattle.turn_cell.specs.Lists.{AllBy}
 use Rattle.node_links.specs.Books.{Steps, StepsBy}
 use Rattle.node_states.specs.Fitting.{ClientEventFits}
 use Rattle.node_states.specs.Machines.{ClientBy, ClientSays, SchedSays, WorkerSays, node_bytes}
@@ -44,7 +45,8 @@ use Rattle.node_states.specs.Released.{WasReleased, is_released, lets_go}
 use Rattle.node_runner.specs.Runs.{AreWhole, ClientSteps, IsGot, IsHistory, SchedSteps, WorkerSteps}
 use Rattle.node_runner.specs.declared.ends.Histories.{Histories}
 use Rattle.node_runner.specs.declared.plan.RunPlan.{RunPlan}
-use Rattle.thread_run.specs.Reports.{IsLegalRun, IsServedRun, IsToldOf, IsToldOfRun, IsVerdictOf, IsVerdictOn, audited, entries_of}
+use Rattle.thread_run.specs.Reports.{IsLegalRun, IsServedRun, IsToldOfRun, IsVerdictOn, audited, entries_of}
+use Rattle.thread_run.specs.Verdicts.{IsToldOf, IsVerdictOf}
 use Rattle.thread_run.specs.declared.verdict.Told.{Told}
 use Rattle.thread_run.specs.declared.verdict.Verdict.{Verdict}
 use Rattle.thread_run.specs.declared.verdict.Verdict.TheVariants.{Agrees, Differs, NotComplete}

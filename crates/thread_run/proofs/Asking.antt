@@ -2,7 +2,8 @@
 use Rattle.std.proofs.Common.{◌≡◌, ◌≤◌, ◌<◌, ◌+◌, ◌⊎◌, ℕ, zero, suc, Bool, true, false, refl, ap, sym, ◌∙◌, subst, arith, inl, inr, if◌then◌else◌}
 use Rattle.std.specs.Prelude.{nat_eq}
 use Rattle.io_edge.proofs.OpeningLaws.{raised_bounds}
-use Rattle.io_edge.specs.View.{View, Spills, raised, raised_at}
+use Rattle.io_edge.specs.View.{View, Spills, raised}
+use Rattle.io_edge.specs.Calls.{raised_at}
 use Rattle.thread_run.specs.Disks.{AsksFor, AsksUpTo}
 
 -- none

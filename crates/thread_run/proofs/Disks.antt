@@ -4,7 +4,8 @@ use Rattle.std.specs.Prelude.{IfSome, IsTrue}
 use Rattle.std.proofs.lemmas.Bool.{false≢true}
 use Rattle.small_facts.proofs.Options.{if_some_weaker}
 use Rattle.io_edge.specs.Disk.{DiskView, fresh_disk}
-use Rattle.io_edge.specs.View.{View, Files, OnlySpills}
+use Rattle.io_edge.specs.View.{View, Files}
+use Rattle.io_edge.specs.Calls.{OnlySpills}
 use Rattle.nd_shape.specs.Block.{Array}
 use Rattle.cluster_msgs.specs.Labels.{LabelFacts}
 use Rattle.block_lowering.specs.Jobs.{Job}

@@ -4,12 +4,14 @@ use Rattle.std.specs.Prelude.{IfSome, IsTrue}
 use Rattle.std.proofs.lemmas.Bool.{false≢true}
 use Rattle.small_facts.proofs.Options.{if_some_weaker}
 use Rattle.io_edge.specs.Cause.{Rose}
-use Rattle.io_edge.specs.Content.{Content, PrintsPart, followed_by}
-use Rattle.io_edge.specs.Given.{GivesMore}
+use Rattle.io_edge.specs.Content.{Content}
+use Rattle.io_edge.specs.Printing.{PrintsPart, followed_by}
+use Rattle.io_edge.specs.Transcript.{GivesMore}
 use Rattle.io_edge.proofs.GivenLaws.{given_before, given_later, more_same, more_then}
-use Rattle.io_edge.specs.View.{View, Files, OnlyOut, OnlyReads, Opens, raised_by}
+use Rattle.io_edge.specs.View.{View, Files, raised_by}
+use Rattle.io_edge.specs.Calls.{OnlyOut, OnlyReads, Opens}
 use Rattle.npy_codec.specs.declared.head.Head.{Head}
-use Rattle.plain_eval.specs.Eval.{held_in}
+use Rattle.plain_eval.specs.Held.{held_in}
 use Rattle.command_words.specs.declared.run.RunWords.{RunWords}
 use Rattle.job_run.specs.declared.ends.Ended.{Ended}
 use Rattle.job_run.specs.declared.ends.Ended.TheVariants.{Done, Limit, File, Zero, Killed, ReadFault, WriteFault, OutOfMemory}
@@ -17,18 +19,20 @@ use Rattle.job_run.specs.Inputs.{told_all}
 use Rattle.job_run.specs.Lowering.{LowerCause}
 use Rattle.job_run.specs.Part.{AreLeft, AreWhole, IsNoneOf, RaisedAtMost}
 use Rattle.job_run.specs.Plan.{Plan, names_saved}
-use Rattle.job_run.specs.Runs.{AreRight, AreSaved, Created, IsFitGiven, IsSmall, ReadCause, RunsPlan, StopsPrinting}
+use Rattle.job_run.specs.Runs.{AreRight, AreSaved, Created, IsFitGiven, IsSmall, StopsPrinting}
+use Rattle.job_run.specs.Evaluation.{ReadCause, RunsPlan}
 use Rattle.job_run.specs.Told.{named_told}
 use Rattle.job_run.specs.Values.{IsFaulty, MeetsNone, Named, OnInputs, files_of, tasks_of}
-use Rattle.job_run.specs.Wanted.{wanted_of}
+use Rattle.job_run.specs.Keys.{wanted_of}
 use Rattle.task_graph.specs.Graphs.{shape_of}
 use Rattle.job_run.proofs.Counting.{raised_at_most, times-append}
 use Rattle.job_run.proofs.Naming.{on_named}
 use Rattle.job_run.proofs.Running.{HaveAccepted, left_before, lowering_runs, most_before, reading_runs, rose_before}
 use Rattle.thread_run.specs.Counts.{RaisedBetween, feeds, numbers, repeated}
 use Rattle.thread_run.specs.Disks.{AsksUpTo}
-use Rattle.thread_run.specs.Ends.{Cause, HasValues, Looked, Opened, Prints, PrintsRun, IsOutgrownRun, LeavesAs, RunsByThreads, Saves, lines_of, openings}
-use Rattle.thread_run.specs.Feeding.{is_told}
+use Rattle.thread_run.specs.Ends.{Cause, HasValues, Looked, Opened, Prints, PrintsRun, IsOutgrownRun, Saves, lines_of, openings}
+use Rattle.thread_run.specs.Running.{LeavesAs, RunsByThreads}
+use Rattle.thread_run.specs.Told.{is_told}
 use Rattle.thread_run.specs.Losses.{losses_by}
 use Rattle.thread_run.specs.Reports.{IsOutgrownBy, IsToldBy, IsToldRun, label}
 use Rattle.thread_run.specs.declared.ends.ThreadEnded.{ThreadEnded}

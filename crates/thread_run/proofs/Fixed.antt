@@ -4,7 +4,8 @@ use Rattle.std.proofs.lemmas.Bool.{and_parts}
 use Rattle.std.specs.Prelude.{IfSome, IsTrue}
 use Rattle.small_facts.proofs.Options.{same_in_some}
 use Rattle.io_edge.specs.Content.{Content, Told, OnTold, file_at, size_of}
-use Rattle.io_edge.specs.View.{Files, Opens, Shows}
+use Rattle.io_edge.specs.View.{Files}
+use Rattle.io_edge.specs.Calls.{Opens, Shows}
 use Rattle.nd_shape.specs.Index.{IsIn}
 use Rattle.npy_codec.specs.declared.head.Head.{Head}
 use Rattle.npy_codec.specs.Regions.{element}
@@ -12,7 +13,8 @@ use Rattle.block_lowering.specs.Jobs.{FitsFeed, HaveData, TellsFeed, head_at}
 use Rattle.job_run.specs.Inputs.{told_all}
 use Rattle.job_run.proofs.Told.{told_at}
 use Rattle.node_runner.specs.Naming.{FitsRun}
-use Rattle.thread_run.specs.Feeding.{IsFixed, is_told, veiled}
+use Rattle.thread_run.specs.Feeding.{IsFixed, veiled}
+use Rattle.thread_run.specs.Told.{is_told}
 use Rattle.thread_run.proofs.Veiled.{count_veiled, file_hidden, size_veiled}
 use Rattle.job_run.proofs.Naming.{some_told}
 

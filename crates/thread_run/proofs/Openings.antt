@@ -5,7 +5,8 @@ use Rattle.std.proofs.lemmas.List.Elements.{Contains-push_cases}
 use Rattle.std.proofs.lemmas.Nat.{mul-le}
 use Rattle.std.specs.Prelude.{Contains, map}
 use Rattle.io_edge.specs.Cause.{Rose, TakesFaults}
-use Rattle.io_edge.specs.View.{View, Files, OnlyReads, Opens, times}
+use Rattle.io_edge.specs.View.{View, Files, times}
+use Rattle.io_edge.specs.Calls.{OnlyReads, Opens}
 use Rattle.io_edge.proofs.GivenLaws.{reads_then}
 use Rattle.io_edge.proofs.Only.{reads_none}
 use Rattle.job_run.proofs.Counting.{times-append}

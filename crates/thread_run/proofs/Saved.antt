@@ -5,7 +5,8 @@ use Rattle.std.proofs.lemmas.List.{length-map}
 use Rattle.std.proofs.lemmas.Result.{IfErr-weaker}
 use Rattle.io_edge.specs.declared.edge.OpenFault.{OpenFault}
 use Rattle.io_edge.specs.declared.edge.OpenFault.TheVariants as fault
-use Rattle.io_edge.specs.View.{Files, OnlyWrites, View, raised_by}
+use Rattle.io_edge.specs.View.{Files, View, raised_by}
+use Rattle.io_edge.specs.Calls.{OnlyWrites}
 use Rattle.nd_shape.specs.Block.{Array}
 use Rattle.block_lowering.specs.Jobs.{Job, dims_of, graph_of, made_by}
 use Rattle.cluster_msgs.specs.Labels.{LabelFacts}
@@ -18,7 +19,7 @@ use Rattle.node_runner.specs.declared.ends.RunStatus.{RunStatus}
 use Rattle.job_run.specs.Evaluating.{AreOpenFor}
 use Rattle.job_run.specs.Plan.{Plan, Saved, name_at, names_saved}
 use Rattle.job_run.specs.Values.{Named, tasks_of}
-use Rattle.job_run.specs.Wanted.{wanted_of}
+use Rattle.job_run.specs.Keys.{wanted_of}
 use Rattle.thread_run.specs.Losses.{Losses}
 use Rattle.thread_run.specs.Reports.{label}
 use Rattle.thread_run.specs.Saver.{IsLabelOf, Saves, SavesOn, had_in}

@@ -21,17 +21,20 @@ use Rattle.cluster_msgs.specs.Shape.{deps_of}
 use Rattle.cluster_msgs.proofs.ValueLemmas.{bad-above}
 use Rattle.task_graph.specs.Graphs.{operation, shape_of, value}
 use Rattle.lowering_laws.specs.Lowered.{lowered}
-use Rattle.lowering_laws.specs.Named.{IsName, box_of, layout_of, name_of}
+use Rattle.lowering_laws.specs.Named.{box_of, layout_of, name_of}
+use Rattle.lowering_laws.specs.NameLaws.{IsName}
 use Rattle.lowering_laws.specs.Whole.{IsSound}
 use Rattle.saved_files.proofs.Filled.{whole as filled-whole}
-use Rattle.saved_files.specs.Filling.{Cover, HoldsBox, IsPart, file_of as bytes_of}
-use Rattle.saved_files.specs.Saving.{GivesBack, IsLeft, IsOf, Saving, TakesAll, WereCreated, saving_at}
+use Rattle.saved_files.specs.Filling.{Cover, HoldsBox, file_of as bytes_of}
+use Rattle.saved_files.specs.Left.{IsPart, IsLeft}
+use Rattle.saved_files.specs.Saving.{GivesBack, IsOf, Saving, TakesAll, WereCreated, saving_at}
 use Rattle.job_run.specs.Evaluating.{AreFresh, AreOpenFor, AreSameFiles, FilesRight, FilesWhole, HasFailed, HasLaws, LeavesAll, array_at, node_at}
 use Rattle.job_run.specs.Filling.{keys_at, layout_at}
 use Rattle.job_run.specs.Part.{AreLeft, AreWhole, IsNoneOf}
 use Rattle.job_run.specs.Plan.{IsRunnable, Plan, name_at, names_saved, nodes_saved}
 use Rattle.job_run.specs.Values.{MeetsNone, Named, files_of, tasks_of}
-use Rattle.job_run.specs.Wanted.{IsWantedOf, wanted_of}
+use Rattle.job_run.specs.Wanted.{IsWantedOf}
+use Rattle.job_run.specs.Keys.{wanted_of}
 use Rattle.job_run.proofs.Evaluated.{file_saved, whole_told, part_told}
 use Rattle.job_run.proofs.Reached.{each, member}
 use Rattle.job_run.proofs.SavedArrays.{holds-saved, part-of, saved-is}

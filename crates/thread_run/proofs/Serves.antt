@@ -8,14 +8,16 @@ use Rattle.io_edge.specs.declared.edge.OpenFault.{OpenFault}
 use Rattle.io_edge.specs.declared.edge.OpenFault.TheVariants as fault
 use Rattle.io_edge.proofs.GivenLaws.{more_same, more_then}
 use Rattle.io_edge.proofs.Only.{spills_none, writes_none}
-use Rattle.io_edge.specs.View.{View, Files, OnlyReads, OnlySpills, OnlyWrites, raised_by, times}
+use Rattle.io_edge.specs.View.{View, Files, raised_by, times}
+use Rattle.io_edge.specs.Calls.{OnlyReads, OnlySpills, OnlyWrites}
 use Rattle.nd_shape.specs.Block.{Array}
 use Rattle.cluster_msgs.specs.Labels.{LabelFacts}
 use Rattle.cluster_msgs.specs.Shape.{Shape, deps_of}
 use Rattle.cluster_msgs.specs.Values.{cone}
 use Rattle.cluster_rules.proofs.Members.{any_some}
 use Rattle.node_states.specs.declared.why.Why.{Why}
-use Rattle.node_runner.specs.Runs.{AreWhole, HasCause, HasFailed, HowItEnded, IfStatus, IsAtFault}
+use Rattle.node_runner.specs.Runs.{AreWhole}
+use Rattle.node_runner.specs.Outcomes.{HasCause, HasFailed, HowItEnded, IfStatus, IsAtFault}
 use Rattle.node_runner.specs.declared.ends.Histories.{Histories}
 use Rattle.node_runner.specs.declared.ends.RunStatus.{RunStatus}
 use Rattle.node_runner.specs.declared.ends.RunStatus.TheVariants as status
@@ -27,7 +29,8 @@ use Rattle.job_run.specs.Part.{AreLeft, IsNoneOf, RaisedAtMost}
 use Rattle.lowering_laws.specs.Lowered.{lowered}
 use Rattle.job_run.specs.Plan.{IsRunnable, Plan, name_at, names_saved, nodes_saved}
 use Rattle.job_run.specs.Values.{Named, files_of, tasks_of}
-use Rattle.job_run.specs.Wanted.{EndsAtKey, IsBlockAt, wanted_of}
+use Rattle.job_run.specs.Wanted.{EndsAtKey, IsBlockAt}
+use Rattle.job_run.specs.Keys.{wanted_of}
 use Rattle.task_graph.specs.Graphs.{shape_of}
 use Rattle.job_run.proofs.Counting.{none_raised, raised_at_most}
 use Rattle.job_run.proofs.Running.{left_before, most_before}
@@ -43,7 +46,8 @@ use Rattle.thread_run.proofs.Asking.{asks_after, asks_apart, asks_same, asks_sti
 use Rattle.thread_run.proofs.Openings.{opens-zero}
 use Rattle.thread_run.proofs.Planning.{removes-same}
 use Rattle.thread_run.proofs.SaverEnds.{open-left}
-use Rattle.thread_run.specs.Reports.{IsOutgrown, IsServedRun, IsToldOf, IsToldOfRun, label}
+use Rattle.thread_run.specs.Reports.{IsOutgrown, IsServedRun, IsToldOfRun, label}
+use Rattle.thread_run.specs.Verdicts.{IsToldOf}
 use Rattle.thread_run.specs.declared.verdict.Told.{Told}
 
 -- ## Results

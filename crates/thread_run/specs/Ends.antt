@@ -1,24 +1,22 @@
 -- How a run of a job by threads ends, why it ends so, and what it leaves.
 use Rattle.std.specs.Prelude.{◌≡◌, ◌⊎◌, ◌++◌, ℕ, List, [], codes, decimal, Bool, Option, None, Some, is_some, IsTrue}
 use Rattle.io_edge.specs.Cause.{Rose}
-use Rattle.io_edge.specs.Content.{followed_by}
-use Rattle.io_edge.specs.Given.{GivesMore}
+use Rattle.io_edge.specs.Printing.{followed_by}
 use Rattle.io_edge.specs.View.{View, Files}
-use Rattle.plain_eval.specs.Eval.{held_in}
+use Rattle.plain_eval.specs.Held.{held_in}
 use Rattle.cluster_msgs.specs.declared.events.Report.{Report}
 use Rattle.run_report.specs.Text.{report_text}
 use Rattle.command_words.specs.declared.run.RunWords.{RunWords}
 use Rattle.job_run.specs.declared.ends.Ended.{Ended}
 use Rattle.job_run.specs.declared.ends.Ended.TheVariants.{Done, Limit, File, Zero, Killed, ReadFault, WriteFault, OutOfMemory}
 use Rattle.job_run.specs.Inputs.{InputsFit}
-use Rattle.job_run.specs.Part.{IsNoneOf, RaisedAtMost}
-use Rattle.job_run.specs.Plan.{Plan, names_saved}
-use Rattle.job_run.specs.Runs.{AreRight, AreUntouched, IsFitGiven, IsSmall, Cause as RunCause, Saves as RunSaves, Created as RunCreated, StopsPrinting}
+use Rattle.job_run.specs.Part.{RaisedAtMost}
+use Rattle.job_run.specs.Plan.{Plan}
+use Rattle.job_run.specs.Runs.{AreRight, AreUntouched, IsFitGiven, IsSmall, Cause as RunCause, Saves as RunSaves, StopsPrinting}
 use Rattle.job_run.specs.Values.{Named, OnInputs, IsFaulty, IsNeeded, MeetsNone, index_of, saved_lines, tasks_of}
-use Rattle.thread_run.specs.Counts.{RaisedBetween, feeds, numbers, repeated}
-use Rattle.thread_run.specs.Disks.{AsksUpTo}
+use Rattle.thread_run.specs.Counts.{RaisedBetween, feeds, repeated}
 use Rattle.task_graph.specs.Graphs.{shape_of}
-use Rattle.thread_run.specs.Feeding.{is_told}
+use Rattle.thread_run.specs.Told.{is_told}
 use Rattle.thread_run.specs.Losses.{IsKill, IsNeededKey, losses_by}
 use Rattle.thread_run.specs.Reports.{IsOutgrownBy, IsToldRun, label}
 use Rattle.thread_run.specs.declared.ends.ThreadEnded.{ThreadEnded}
@@ -127,21 +125,6 @@ pub record IsAccepted (p : Plan) (names all : List (List ℕ)) (old new : Files)
 abbrev pub Looked : Plan → List (List ℕ) → List (List ℕ) → Files → Files → Type 0
 Looked p names all old new = AreUntouched old new ⊎ IsAccepted p names all old new
 
--- what a run of a job by threads does, by the end as which it leaves the rest
-pub record LeavesAs (p : Plan) (w : RunWords) (old new : View) (end : Ended) : Type 0 where
-  pub cause : Cause p w old new end
-  pub saves : Saves p old.files new.files end
-  pub looked : Looked p p.inputs (openings p w) old.files new.files
-  pub others : (n : List ℕ) → IsNoneOf n (names_saved p) → new.files.held n ≡ old.files.held n
-  pub tells : new.files.tells ≡ old.files.tells
-  pub opened : Opened p.inputs (openings p w) old.files.opened new.files.opened end
-  pub created : RunCreated (names_saved p) old.files.created new.files.created end
-  pub prints : Prints p w old new end
-  pub gave : GivesMore old.gave new.gave
-  pub err : new.err ≡ old.err
-  pub note_faults : new.note_faults ≡ old.note_faults
-  pub asks : AsksUpTo (numbers w) old.spills.asked new.spills.asked
-
 -- an end for the events of a core leaves what one for want of memory leaves
 abbrev pub left_as : ThreadEnded → Ended
 left_as Events = OutOfMemory
@@ -157,8 +140,3 @@ pub record IsOutgrownRun (p : Plan) (w : RunWords) (files : Files) : Type 0 wher
   pub told_is : told ≡ is_told files p.inputs
   pub held : OnInputs p files (λ blocks. held_in blocks ≡ named)
   pub run : IsOutgrownBy (label told w.settings.allowed named (tasks_of p)) (shape_of (tasks_of p)) w
-
--- what a run of a job by threads does
-pub record RunsByThreads (p : Plan) (w : RunWords) (old new : View) (end : ThreadEnded) : Type 0 where
-  pub leaves : LeavesAs p w old new (left_as end)
-  pub events : end ≡ Events → IsOutgrownRun p w old.files

@@ -1,17 +1,14 @@
 -- The feeds of a run: what they tell, and how its site is left by their openings.
-use Rattle.std.specs.Prelude.{◌≡◌, ◌<◌, ◌≤◌, ◌&&◌, ℕ, ℤ, List, [], map, length, slice_index_or, Bool, true, false, is_some, IfSome, Some}
+use Rattle.std.specs.Prelude.{◌≡◌, ◌<◌, ◌≤◌, ℕ, ℤ, List, [], map, length, slice_index_or, Bool, true, false, IfSome, Some}
 use Rattle.io_edge.specs.Cause.{Rose}
 use Rattle.io_edge.specs.Content.{Content, Told, Untold, file_at, size_of}
-use Rattle.io_edge.specs.View.{View, Files, OnlyReads}
+use Rattle.io_edge.specs.View.{View, Files}
+use Rattle.io_edge.specs.Calls.{OnlyReads}
 use Rattle.npy_codec.specs.declared.head.Head.{Head}
 use Rattle.block_lowering.specs.Jobs.{FitsFeed}
-use Rattle.job_run.specs.Inputs.{told_all}
 use Rattle.job_run.specs.Part.{RaisedAtMost}
 use Rattle.thread_run.specs.Counts.{repeated}
-
--- a run is told where its site tells what it holds, its disks among it, and all inputs are told
-abbrev pub is_told : Files → List (List ℕ) → Bool
-is_told site names = site.tells && is_some (told_all site.held names)
+use Rattle.thread_run.specs.Told.{is_told}
 
 -- what files are seen to hold: their lengths alone, where the run isn't told
 abbrev pub veiled : Bool → List Content → List Content

@@ -6,6 +6,9 @@ pub mod Keeping
 pub mod Losses
 pub mod Planning
 pub mod Reports
+pub mod Running
 pub mod Saver
 pub mod Serving
+pub mod Told
+pub mod Verdicts
 pub mod Writes

@@ -9,7 +9,7 @@ use Rattle.node_runner.specs.declared.plan.RunPlan.{RunPlan}
 use Rattle.command_words.specs.declared.run.RunWords.{RunWords}
 use Rattle.job_run.specs.Plan.{Plan}
 use Rattle.job_run.specs.Values.{tasks_of}
-use Rattle.job_run.specs.Wanted.{wanted_of}
+use Rattle.job_run.specs.Keys.{wanted_of}
 
 -- how often a key's worker may leave while the key is assigned to it, where that is bounded, and what the script makes happen
 pub record Losses : Type 0 where

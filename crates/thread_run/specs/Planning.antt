@@ -1,6 +1,6 @@
 -- Which plans a cluster of threads takes.
 use Rattle.std.specs.Prelude.{◌≤◌, ◌<◌, ◌*◌}
-use Rattle.node_runner.specs.Runs.{numbers}
+use Rattle.node_runner.specs.Books.{numbers}
 use Rattle.node_runner.specs.declared.plan.RunPlan.{RunPlan}
 
 pub record IsRunPlan (p : RunPlan) : Type 0 where

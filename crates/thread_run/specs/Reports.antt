@@ -12,9 +12,9 @@ use Rattle.cluster_rules.specs.World.{Job}
 use Rattle.cluster_laws.specs.Blocks.{setting_of}
 use Rattle.task_graph.specs.declared.graph.Task.{Task}
 use Rattle.task_graph.specs.Graphs.{operation, shape_of, task_at}
-use Rattle.plain_eval.specs.Eval.{held_in}
+use Rattle.plain_eval.specs.Held.{held_in}
 use Rattle.journal_audit.specs.Audits.{DiffersAt, IsLegalJournal, events_of}
-use Rattle.journal_audit.specs.Clients.{Gets}
+use Rattle.journal_audit.specs.Got.{Gets}
 use Rattle.journal_audit.specs.Merges.{IsMerge}
 use Rattle.journal_audit.specs.Reports.{taken_of}
 use Rattle.journal_audit.specs.Shapes.{shape_job}
@@ -24,8 +24,8 @@ use Rattle.node_runner.specs.declared.plan.RunPlan.{RunPlan}
 use Rattle.command_words.specs.declared.run.RunWords.{RunWords}
 use Rattle.job_run.specs.Plan.{Plan}
 use Rattle.job_run.specs.Values.{Named, OnInputs, tasks_of}
-use Rattle.job_run.specs.Wanted.{wanted_of}
-use Rattle.thread_run.specs.Feeding.{is_told}
+use Rattle.job_run.specs.Keys.{wanted_of}
+use Rattle.thread_run.specs.Told.{is_told}
 use Rattle.thread_run.specs.declared.verdict.Told.{Told}
 use Rattle.thread_run.specs.declared.verdict.Verdict.{Verdict}
 use Rattle.thread_run.specs.declared.verdict.Verdict.TheVariants.{Agrees, Differs, NotComplete}
@@ -42,21 +42,6 @@ entries_of h = h.scheduler.entries ∷ (map (λ (x : History). x.entries) h.work
 -- the job that a run is audited by: its graph, one client, and what losses are allowed
 abbrev pub audited : Shape → ℕ → Option ℕ → Job
 audited graph saturation allowed = shape_job (setting_of graph 1 saturation allowed)
-
--- what is said of the entries of whole histories by their stamps: that they are a legal list of events with the messages that they took, or the stamp
--- of the first that isn't; of others that they aren't whole
-abbrev pub IsVerdictOf : Job → Histories → List Entry → Verdict → Type 0
-IsVerdictOf j h journal Agrees = AreWhole h × IsLegalJournal j journal
-IsVerdictOf j h journal (Differs stamp) = AreWhole h × DiffersAt j journal stamp
-IsVerdictOf j h journal NotComplete = AreWhole h → ⊥
-
--- what is told of histories, over a graph, with this saturation and these losses: of their entries by their stamps, the report, if one is told, and the
--- verdict
-pub record IsToldOf (graph : Shape) (saturation : ℕ) (allowed : Option ℕ) (h : Histories) (t : Told) : Type 0 where
-  pub journal : List Entry
-  pub merged : IsMerge (entries_of h) journal
-  pub report : IfSome t.report (λ r. r ≡ report graph (map taken_of journal))
-  pub verdict : IsVerdictOf (audited graph saturation allowed) h journal t.verdict
 
 -- the plan of a run by these words
 pub record IsPlanOf (w : RunWords) (plan : RunPlan) : Type 0 where

@@ -2,10 +2,10 @@
 use Rattle.std.specs.Prelude.{◌≡◌, ◌≤◌, ◌<◌, ℕ, List, Contains, IsTrue, Result, Err}
 use Rattle.io_edge.specs.declared.edge.OpenFault.{OpenFault}
 use Rattle.io_edge.specs.declared.edge.OpenFault.TheVariants as fault
-use Rattle.io_edge.specs.Given.{GivesMore}
+use Rattle.io_edge.specs.Transcript.{GivesMore}
 use Rattle.io_edge.specs.View.{View, Files, raised_by}
 use Rattle.cluster_msgs.specs.Labels.{LabelFacts}
-use Rattle.node_runner.specs.Runs.{HasFailed, IsAtFault}
+use Rattle.node_runner.specs.Outcomes.{HasFailed, IsAtFault}
 use Rattle.node_runner.specs.declared.ends.RunStatus.{RunStatus}
 use Rattle.node_runner.specs.declared.ends.RunStatus.TheVariants as status
 use Rattle.job_run.specs.declared.ends.Ended.{Ended}

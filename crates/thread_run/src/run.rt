@@ -1,8 +1,8 @@
 //! A run of a job by threads.
-ghost use Rattle.command_words.specs.Words.{AreRunSettings};
+ghost use Rattle.command_words.specs.Refusals.{AreRunSettings};
 ghost use Rattle.job_run.specs.Jobs.{plan_of};
 ghost use Rattle.job_run.specs.Plan.{IsRunnable};
-ghost use Rattle.thread_run.specs.Ends.{RunsByThreads};
+ghost use Rattle.thread_run.specs.Running.{RunsByThreads};
 
 use crate::ends::ThreadEnded;
 use crate::lines::lines;

@@ -1,7 +1,8 @@
 //! The saved blocks of a run, each written at all its places as it comes.
 ghost use Rattle.std.specs.Prelude.{◌≡◌, ◌≤◌, ◌<◌, ℕ, List, length, true, false, is_some, slice_index_or, IfOk, IfErr, OnOk, OnErr, IsErrOf, IsSome, None, Some};
 ghost use Rattle.io_edge.specs.Cause.{HasOpenCause, Rose};
-ghost use Rattle.io_edge.specs.View.{OnlyWrites, raised_by};
+ghost use Rattle.io_edge.specs.View.{raised_by};
+ghost use Rattle.io_edge.specs.Calls.{OnlyWrites};
 ghost use Rattle.io_edge.specs.declared.edge.OpenFault.TheVariants.{Failed};
 ghost use Rattle.chunk_layout.specs.Layouts.{blocks as block_count, lengths, region};
 ghost use Rattle.cluster_msgs.specs.Labels.{BlockFits};

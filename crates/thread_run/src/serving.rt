@@ -1,18 +1,19 @@
 //! The run of a job's graph by the cluster, over its open inputs.
 ghost use Rattle.std.specs.Prelude.{◌≡◌, ◌*◌, ◌⊎◌, length, map, is_some, vec_len, IfOk, IfErr, IfSome, IsOk, IsTrue, OnOk, Err, Some};
 ghost use Rattle.io_edge.specs.Cause.{Rose};
-ghost use Rattle.command_words.specs.Words.{AreRunSettings};
+ghost use Rattle.command_words.specs.Refusals.{AreRunSettings};
 ghost use Rattle.job_run.specs.Jobs.{plan_of};
 ghost use Rattle.job_run.specs.Loading.{AreHeads};
 ghost use Rattle.job_run.specs.Lowering.{IsGraphOf};
 ghost use Rattle.job_run.specs.Plan.{IsRunnable, input_shapes};
 ghost use Rattle.job_run.specs.Values.{tasks_of};
-ghost use Rattle.job_run.specs.Wanted.{IsWantedOf, wanted_of};
+ghost use Rattle.job_run.specs.Wanted.{IsWantedOf};
+ghost use Rattle.job_run.specs.Keys.{wanted_of};
 ghost use Rattle.block_lowering.specs.Jobs.{graph_of};
 ghost use Rattle.io_edge.specs.Given.{OnGiven};
 ghost use Rattle.job_run.specs.Inputs.{FitInputs};
 ghost use Rattle.job_run.specs.Runs.{IsFitGiven};
-ghost use Rattle.node_runner.specs.Runs.{numbers as numbers_of};
+ghost use Rattle.node_runner.specs.Books.{numbers as numbers_of};
 ghost use Rattle.node_runner.specs.declared.ends.RunStatus.TheVariants as status;
 ghost use Rattle.task_graph.specs.Graphs.{shape_of};
 ghost use Rattle.thread_run.specs.Counts.{feeds as feeds_of, numbers as numbers_in};

@@ -1,7 +1,7 @@
 //! The stores of a run's workers, one for each worker number, with a disk of the site each.
 ghost use Rattle.std.specs.Prelude.{◌≡◌, IfOk, IfSome};
 ghost use Rattle.io_edge.specs.Disk.{fresh_disk};
-ghost use Rattle.io_edge.specs.View.{OnlySpills};
+ghost use Rattle.io_edge.specs.Calls.{OnlySpills};
 ghost use Rattle.thread_run.specs.Disks.{AsksFor, AsksUpTo};
 ghost use Rattle.worker_store.specs.Keeping.{IsDiskFor};
 

@@ -5,7 +5,8 @@ ghost use Rattle.cluster_rules.specs.Report.{report as report_of};
 ghost use Rattle.journal_audit.specs.Reports.{taken_of};
 ghost use Rattle.node_runner.specs.declared.ends.Histories.{Histories as AnyHistories};
 ghost use Rattle.node_runner.specs.Runs.{AreWhole};
-ghost use Rattle.thread_run.specs.Reports.{IsToldOf, IsVerdictOf, audited};
+ghost use Rattle.thread_run.specs.Reports.{audited};
+ghost use Rattle.thread_run.specs.Verdicts.{IsToldOf, IsVerdictOf};
 
 use crate::verdict::{Told, Verdict};
 use cluster_msgs::{GraphShape, History, Report};

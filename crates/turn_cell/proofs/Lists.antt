@@ -5,7 +5,8 @@ use Rattle.std.proofs.lemmas.Grind.{get_or-set_at}
 use Rattle.std.proofs.lemmas.List.{get_or_default, get_or_append_left, get_or_push}
 use mathlib.Core.Logic.{dite}
 use native.Mathlib.Decide.{ℕ_discrete}
-use Rattle.turn_cell.specs.Rows.{EachAt, AllAt, AllBy, Mixed}
+use Rattle.turn_cell.specs.Rows.{EachAt, AllAt, Mixed}
+use Rattle.turn_cell.specs.Lists.{AllBy}
 
 -- one place is changed
 pub all_by_set : {A B : Type 0} (R Q : ℕ → A → B → Type 0) (xs : List A) (ys : List B) (i : ℕ) (a : A) (w : B) → AllBy R xs ys → i < length ys → ((k : ℕ) (x : A) (y : B) → k ≢ i → R k x y → Q k x y) → Q i (get_or xs i a) w → AllBy Q xs (set ys i w)

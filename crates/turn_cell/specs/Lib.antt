@@ -1,4 +1,5 @@
 pub mod Histories
+pub mod Lists
 pub mod Turns
 pub mod Ticks
 pub mod Rows

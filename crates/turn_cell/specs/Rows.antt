@@ -15,11 +15,6 @@ pub record AllAt {A B : Type 0} (R : A → B → Type 0) (xs : List A) (ys : Lis
   pub long : length ys ≡ length xs
   pub at : EachAt R xs ys
 
--- the same by place
-pub record AllBy {A B : Type 0} (R : ℕ → A → B → Type 0) (xs : List A) (ys : List B) : Type 0 where
-  pub long : length ys ≡ length xs
-  pub each : (k : ℕ) (a : A) (b : B) → k < length ys → R k (slice_index_or xs k a) (slice_index_or ys k b)
-
 -- the pass is one of this table's, whose cell was made with this state; it holds no turn, and has so many parts of so many
 pub record HasParts {S : Type 0} (table : TableId) (start : Option S) (total parts : ℕ) (p : Seat (Option S) (View S)) : Type 0 where
   pub table_is : p.table_id ≡ table

@@ -1,7 +1,8 @@
 //! Rows of cells, and the passes of one driver.
 ghost use Rattle.std.specs.Prelude.{◌≡◌, ℕ, ◌+◌, ◌-◌, ◌^◌, ◌<◌, ◌≤◌, [], IfOk, IfErr, length, vec_len};
 ghost use Rattle.std.specs.Vec.{vec_capacity};
-ghost use Rattle.turn_cell.specs.Rows.{AllAt, AllBy, EachAt, HasParts, IsClosed};
+ghost use Rattle.turn_cell.specs.Rows.{AllAt, EachAt, HasParts, IsClosed};
+ghost use Rattle.turn_cell.specs.Lists.{AllBy};
 
 use crate::cell::{Pass, TurnCell};
 use crate::kept::{Act, Kept};

@@ -1,7 +1,7 @@
 use Rattle.std.proofs.Common.{◌≡◌, ◌<◌, true, length, Some, slice_get, ap, sym, subst, refl, ◌∙◌, arith, rules}
 use Rattle.small_facts.proofs.Options.{slice_get_at}
 use Rattle.array_expr.specs.Elem.{is_input, next_input}
-use Rattle.plain_eval.specs.Eval.{block_at}
+use Rattle.plain_eval.specs.Held.{block_at}
 use Rattle.plain_eval.proofs.Arrays.{inputs-next, next-few}
 use Rattle.array_table.proofs.FirstInputs.{HasBlock, blocks-none, blocks-more}
 use Rattle.array_table.proofs.inputs.have_blocks.Goals as goal

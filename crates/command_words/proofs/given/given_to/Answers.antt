@@ -1,5 +1,5 @@
 -- The text that the matches have.
-use Rattle.command_words.specs.Given.{text_in}
+use Rattle.command_words.specs.Reading.{text_in}
 use Rattle.command_words.proofs.given.given_to.Goals as goal
 
 pub returns : goal.returns

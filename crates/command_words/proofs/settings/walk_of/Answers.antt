@@ -1,7 +1,7 @@
 -- A script that can't be followed.
 use Rattle.std.proofs.lemmas.Bool.{MatchBool-at_false}
 use Rattle.std.proofs.lemmas.Result.{err_from_is_err_and}
-use Rattle.command_words.specs.Given.{text_in}
+use Rattle.command_words.specs.Reading.{text_in}
 use Rattle.command_words.proofs.Saying.{none_followed, not_followed}
 use Rattle.command_words.proofs.settings.walk_of.Goals as goal
 

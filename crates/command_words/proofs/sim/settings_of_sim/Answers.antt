@@ -1,5 +1,5 @@
 -- A setting that isn't there.
-use Rattle.command_words.specs.Given.{text_in}
+use Rattle.command_words.specs.Reading.{text_in}
 use Rattle.command_words.proofs.Cuts.{none_case}
 use Rattle.command_words.proofs.Saying.{no_sim_numbers}
 use Rattle.command_words.proofs.sim.settings_of_sim.Goals as goal

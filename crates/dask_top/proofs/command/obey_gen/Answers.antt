@@ -1,6 +1,6 @@
 use Rattle.std.proofs.Common.{map, string_bytes, get_or, codes, [], subst, inr}
 use Rattle.small_facts.proofs.Lists.{same_bytes}
-use Rattle.command_words.specs.Words.{IsNoGen}
+use Rattle.command_words.specs.Refusals.{IsNoGen}
 use Rattle.command_words.proofs.Saying.{gen_settings}
 use Rattle.command_words.specs.declared.fail.WordsFail.{WordsFail}
 use Rattle.dask_top.proofs.Obeying.{generated, only_gen, refused_words, unread_words}

@@ -1,6 +1,6 @@
 use Rattle.std.proofs.Common.{map, string_bytes, get_or, codes, [], subst, inl}
 use Rattle.small_facts.proofs.Lists.{same_bytes}
-use Rattle.command_words.specs.Words.{IsNoRun}
+use Rattle.command_words.specs.Refusals.{IsNoRun}
 use Rattle.command_words.proofs.Saying.{run_settings}
 use Rattle.command_words.specs.declared.fail.WordsFail.{WordsFail}
 use Rattle.dask_top.proofs.Obeying.{only_run, ran, refused_words, unread_words}

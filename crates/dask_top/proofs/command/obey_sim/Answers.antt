@@ -1,6 +1,6 @@
 use Rattle.std.proofs.Common.{map, string_bytes, get_or, codes, [], subst, inl, inr}
 use Rattle.small_facts.proofs.Lists.{same_bytes}
-use Rattle.command_words.specs.Words.{IsWhy}
+use Rattle.command_words.specs.Refusals.{IsWhy}
 use Rattle.command_words.specs.declared.fail.WordsFail.{WordsFail}
 use Rattle.dask_top.proofs.Obeying.{only_sim, simulated, refused_words, unread_words}
 use Rattle.dask_top.proofs.command.obey_sim.Goals as goal

@@ -1,7 +1,7 @@
 use Rattle.std.proofs.Common.{map, take, true, string_bytes}
 use Rattle.io_edge.specs.Content.{Told}
 use Rattle.io_edge.specs.Book.{book_files, contents, KnowsAll, OpensTo}
-use Rattle.io_edge.specs.View.{Shows}
+use Rattle.io_edge.specs.Calls.{Shows}
 use Rattle.io_edge.proofs.opening.open_each.Given as goal
 
 abbrev pub invariant-loop-at : goal.invariant-loop-at

@@ -2,7 +2,7 @@ use Rattle.std.proofs.Common.{◌≡◌, ◌≤◌, map, take, string_bytes, len
 use Rattle.io_edge.specs.Content.{Untold}
 use Rattle.io_edge.specs.Real.{real_files}
 use Rattle.io_edge.specs.Book.{KnowsAll, OpensTo}
-use Rattle.io_edge.specs.View.{Shows}
+use Rattle.io_edge.specs.Calls.{Shows}
 use Rattle.io_edge.proofs.site.open_each_real.Given as goal
 
 abbrev pub invariant-loop-name : goal.invariant-loop-name

@@ -1,5 +1,5 @@
 use Rattle.std.proofs.Common.{◌≤◌}
-use Rattle.io_edge.specs.View.{OnlyWrites}
+use Rattle.io_edge.specs.Calls.{OnlyWrites}
 use Rattle.job_run.specs.Creating.{CreatesFirst}
 use Rattle.job_run.specs.Jobs.{plan_of}
 use Rattle.job_run.proofs.create.create_each.Given as goal

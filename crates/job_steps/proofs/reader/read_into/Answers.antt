@@ -1,6 +1,6 @@
 -- The loop begins, goes on and ends as the text does.
 use Rattle.std.proofs.Common.{ℕ, false, Ok, sym, ap, subst, arith}
-use Rattle.job_steps.specs.Steps.{IsPast}
+use Rattle.job_steps.specs.Past.{IsPast}
 use Rattle.job_steps.proofs.reader.read_into.Goals as goal
 
 pub tokens-init : goal.tokens-init

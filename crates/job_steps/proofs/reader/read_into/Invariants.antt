@@ -1,6 +1,6 @@
 -- The tokens so far were taken.
 use Rattle.std.proofs.Common.{◌≤◌, ◌-◌, length}
-use Rattle.job_steps.specs.Steps.{IsPast}
+use Rattle.job_steps.specs.Past.{IsPast}
 use Rattle.job_steps.proofs.reader.read_into.Given as goal
 
 abbrev pub invariant-tokens : goal.invariant-tokens

@@ -1,7 +1,7 @@
 -- What is due without a further token, the text has.
 use Rattle.std.proofs.Common.{◌++◌, ap, ◌∙◌}
 use Rattle.job_steps.specs.declared.step.Ending.TheVariants.{NoToken}
-use Rattle.job_steps.specs.Steps.{steps_at}
+use Rattle.job_steps.specs.Past.{steps_at}
 use Rattle.job_steps.proofs.Pasts.{read-with}
 use Rattle.job_steps.proofs.reader.stop_at.Goals as goal
 

@@ -2,7 +2,7 @@
 use Rattle.std.proofs.Common.{◌++◌, Ok, ap, ◌∙◌}
 use Rattle.job_tokens.specs.declared.token.Next.TheVariants as NextVariants
 use Rattle.job_steps.specs.declared.step.Ending.TheVariants.{Whole, Unfinished}
-use Rattle.job_steps.specs.Steps.{steps_at}
+use Rattle.job_steps.specs.Past.{steps_at}
 use Rattle.job_steps.proofs.Pasts.{read-with}
 use Rattle.job_steps.proofs.reader.take_end.Goals as goal
 

@@ -1,7 +1,7 @@
 -- What the grammar says of the token, the text has.
 use Rattle.std.proofs.Common.{◌++◌, Ok, ap, ◌∙◌}
 use Rattle.job_steps.specs.declared.step.Ending.TheVariants.{Unexpected}
-use Rattle.job_steps.specs.Steps.{steps_at}
+use Rattle.job_steps.specs.Past.{steps_at}
 use Rattle.job_steps.proofs.Pasts.{past-taken, read-with}
 use Rattle.job_steps.proofs.reader.take_token.Goals as goal
 

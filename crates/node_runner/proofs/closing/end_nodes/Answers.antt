@@ -2,9 +2,12 @@ use Rattle.std.proofs.Common.{◌≡◌, ◌+◌, ℕ, List, true, sym, subst, a
 use Rattle.std.specs.Prelude.{All, Some, Ok, IfSome, IfOk}
 use Rattle.gather_client.specs.CoreState.{client_facts}
 use Rattle.scheduler_core.specs.Cores.{facts}
-use Rattle.turn_cell.specs.Rows.{AllBy}
+use Rattle.turn_cell.specs.Lists.{AllBy}
 use Rattle.worker_core.specs.Core.{facts as worker_facts}
-use Rattle.node_runner.specs.Runs.{HasGot, IsBlamed, IsDoubtBy, IsFailure, IsGivenUp, IfStatus, IsRow, IsSpent, IsFromScheduler, IsFromWorker, IsFromClient}
+use Rattle.node_runner.specs.Runs.{HasGot}
+use Rattle.node_runner.specs.Outcomes.{IsRow}
+use Rattle.node_runner.specs.Outcomes.{IsBlamed, IsDoubtBy, IsFailure, IsGivenUp, IfStatus, IsSpent}
+use Rattle.node_runner.specs.Books.{IsFromScheduler, IsFromWorker, IsFromClient}
 use Rattle.node_runner.proofs.Ending.{doubt_is, has_run, if_told, ok_told, true_there}
 use Rattle.node_runner.proofs.closing.end_nodes.Goals as goal
 

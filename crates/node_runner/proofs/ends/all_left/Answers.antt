@@ -1,8 +1,8 @@
 use Rattle.std.proofs.Common.{◌+◌, ◌<◌, length, take, sym, subst, arith}
 use Rattle.std.proofs.lemmas.List.{take_all}
 use Rattle.scheduler_core.specs.Cores.{facts}
-use Rattle.turn_cell.specs.Rows.{AllBy}
-use Rattle.node_runner.specs.Runs.{IsRow}
+use Rattle.turn_cell.specs.Lists.{AllBy}
+use Rattle.node_runner.specs.Outcomes.{IsRow}
 use Rattle.node_runner.proofs.Places.{all_by_next}
 use Rattle.node_runner.proofs.ends.all_left.Goals as goal
 

@@ -1,7 +1,7 @@
 use Rattle.std.proofs.Common.{◌+◌, take}
 use Rattle.scheduler_core.specs.Cores.{facts}
-use Rattle.turn_cell.specs.Rows.{AllBy}
-use Rattle.node_runner.specs.Runs.{IsRow}
+use Rattle.turn_cell.specs.Lists.{AllBy}
+use Rattle.node_runner.specs.Outcomes.{IsRow}
 use Rattle.node_runner.proofs.ends.all_left.Given as goal
 
 abbrev pub invariant-loop-at : goal.invariant-loop-at

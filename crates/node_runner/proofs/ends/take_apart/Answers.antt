@@ -2,8 +2,8 @@ use Rattle.std.proofs.Common.{◌≡◌, ◌∙◌, ◌++◌, ◌∷◌, [], map
 use Rattle.std.proofs.lemmas.Iterator.Adapters.{YieldsList-from_vec}
 use Rattle.std.proofs.lemmas.Iterator.Consumers.{YieldsList-end}
 use Rattle.worker_core.specs.Core.{facts as worker_facts}
-use Rattle.turn_cell.specs.Rows.{AllBy}
-use Rattle.node_runner.specs.Runs.{IsFromWorker}
+use Rattle.turn_cell.specs.Lists.{AllBy}
+use Rattle.node_runner.specs.Books.{IsFromWorker}
 use Rattle.node_runner.proofs.Places.{all_by_pushed, first_two, if_whole}
 use Rattle.node_runner.proofs.ends.take_apart.Goals as goal
 

@@ -1,7 +1,7 @@
 use Rattle.std.proofs.Common.{◌≡◌, true}
 use Rattle.worker_core.specs.Core.{facts as worker_facts}
-use Rattle.turn_cell.specs.Rows.{AllBy}
-use Rattle.node_runner.specs.Runs.{IsFromWorker}
+use Rattle.turn_cell.specs.Lists.{AllBy}
+use Rattle.node_runner.specs.Books.{IsFromWorker}
 use Rattle.node_runner.proofs.ends.take_apart.Given as goal
 
 abbrev pub invariant-loop-worker : goal.invariant-loop-worker

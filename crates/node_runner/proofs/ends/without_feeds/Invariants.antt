@@ -1,5 +1,5 @@
 use Rattle.std.proofs.Common.{◌≡◌, ◌++◌, drop, map, take}
-use Rattle.node_runner.specs.Runs.{without_feed}
+use Rattle.node_runner.specs.Outcomes.{without_feed}
 use Rattle.node_runner.proofs.ends.without_feeds.Given as goal
 
 abbrev pub invariant-loop-at : goal.invariant-loop-at

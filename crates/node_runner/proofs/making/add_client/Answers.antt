@@ -2,7 +2,7 @@ use Rattle.std.proofs.Common.{get_or}
 use Rattle.std.proofs.lemmas.Result.{IfOk-weaker}
 use Rattle.gather_client.specs.CoreState.{client_facts}
 use Rattle.turn_cell.specs.Rows.{berth_of}
-use Rattle.node_runner.specs.Runs.{IsFirstClient}
+use Rattle.node_runner.specs.Books.{IsFirstClient}
 use Rattle.node_runner.proofs.Made.{made_one}
 use Rattle.node_runner.proofs.making.add_client.Goals as goal
 

@@ -1,5 +1,5 @@
 use Rattle.turn_cell.specs.Rows.{berth_of}
-use Rattle.node_runner.specs.Runs.{IsFirstScheduler}
+use Rattle.node_runner.specs.Books.{IsFirstScheduler}
 use Rattle.node_runner.proofs.Made.{made_one}
 use Rattle.node_runner.proofs.making.add_scheduler.Goals as goal
 

@@ -1,7 +1,7 @@
 use Rattle.std.proofs.Common.{◌+◌}
 use Rattle.worker_core.specs.Core.{facts as worker_facts}
 use Rattle.turn_cell.specs.Rows.{berth_of}
-use Rattle.node_runner.specs.Runs.{IsFirstWorker}
+use Rattle.node_runner.specs.Books.{IsFirstWorker}
 use Rattle.node_runner.proofs.Made.{made_more}
 use Rattle.node_runner.proofs.making.add_worker.Goals as goal
 

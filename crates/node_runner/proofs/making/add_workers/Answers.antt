@@ -7,7 +7,7 @@ use Rattle.std.proofs.lemmas.List.{length-append}
 use Rattle.worker_core.specs.Core.{facts as worker_facts}
 use Rattle.turn_cell.specs.Rows.{berth_of}
 use Rattle.node_runner.specs.Making.{AreMade}
-use Rattle.node_runner.specs.Runs.{IsFirstWorker}
+use Rattle.node_runner.specs.Books.{IsFirstWorker}
 use Rattle.node_runner.proofs.making.add_workers.Goals as goal
 
 pub loop-ports-preserved : goal.loop-ports-preserved

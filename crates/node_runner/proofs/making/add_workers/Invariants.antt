@@ -2,7 +2,7 @@ use Rattle.std.proofs.Common.{◌≡◌, ◌+◌, true, map, length}
 use Rattle.worker_core.specs.Core.{facts as worker_facts}
 use Rattle.turn_cell.specs.Rows.{berth_of}
 use Rattle.node_runner.specs.Making.{AreMade}
-use Rattle.node_runner.specs.Runs.{IsFirstWorker}
+use Rattle.node_runner.specs.Books.{IsFirstWorker}
 use Rattle.node_runner.proofs.making.add_workers.Given as goal
 
 abbrev pub invariant-loop-ports : goal.invariant-loop-ports

@@ -5,7 +5,8 @@ use Rattle.gather_client.specs.CoreState.{client_facts}
 use Rattle.worker_core.specs.Core.{facts as worker_facts}
 use Rattle.turn_cell.specs.Rows.{berth_of}
 use Rattle.node_runner.specs.Making.{AreMade}
-use Rattle.node_runner.specs.Runs.{IsFirstScheduler, IsFirstWorker, IsFirstClient, lacking_feeds, numbers}
+use Rattle.node_runner.specs.Books.{IsFirstScheduler, IsFirstWorker, IsFirstClient, numbers}
+use Rattle.node_runner.specs.Outcomes.{lacking_feeds}
 use Rattle.node_runner.proofs.Beginning.{allowed_named, deps_named}
 use Rattle.node_runner.proofs.run.begin.Goals as goal
 

@@ -6,7 +6,8 @@ use Rattle.gather_client.specs.CoreState.{client_facts}
 use Rattle.scheduler_core.specs.Cores.{facts}
 use Rattle.worker_core.specs.Core.{facts as worker_facts}
 use Rattle.node_states.specs.declared.worker.WorkerNode.{WorkerNode}
-use Rattle.node_runner.specs.Runs.{IsSchedulersBook, IsWorkersBook, IsClientsBook, last_facts}
+use Rattle.node_runner.specs.Books.{IsSchedulersBook, IsWorkersBook, IsClientsBook}
+use Rattle.node_runner.specs.Outcomes.{last_facts}
 use Rattle.node_runner.proofs.run.end_rows.Goals as goal
 
 pub end_nodes-requires-clause-scheduler : goal.end_nodes-requires-clause-scheduler

@@ -2,7 +2,7 @@ use mathlib.Core.Logic.{inl, inr}
 use Rattle.std.proofs.Common.{◌≡◌, ◌+◌, ◌≤◌, ◌<◌, ◌⊎◌, true, map, ⊎_elim, arith}
 use Rattle.std.specs.Prelude.{All, Contains, vec_len}
 use Rattle.node_runner.specs.Naming.{run_facts}
-use Rattle.node_runner.specs.Runs.{HasFeedFault}
+use Rattle.node_runner.specs.Outcomes.{HasFeedFault}
 use Rattle.node_runner.proofs.FeedFaults.{ended_more, ended_none, nobody_for_feeds, none_ok}
 use Rattle.node_runner.proofs.run.run_cluster.Goals as goal
 

@@ -3,7 +3,8 @@ use Rattle.std.specs.Prelude.{All, Contains, slice_index_or}
 use Rattle.gather_client.specs.CoreState.{client_facts}
 use Rattle.worker_core.specs.Core.{facts as worker_facts}
 use Rattle.node_runner.specs.Naming.{run_facts}
-use Rattle.node_runner.specs.Runs.{IsDecided, IsSchedulersBook, IsWorkersBook, IsClientsBook, HowItEnded}
+use Rattle.node_runner.specs.Outcomes.{IsDecided, HowItEnded}
+use Rattle.node_runner.specs.Books.{IsSchedulersBook, IsWorkersBook, IsClientsBook}
 use Rattle.node_runner.proofs.FeedFaults.{backed_end, backed_ok, still_ok, told_end}
 use Rattle.node_runner.proofs.Beginning.{allowed_named}
 use Rattle.node_runner.proofs.run.run_made.Goals as goal

@@ -12,7 +12,7 @@ use Rattle.node_links.proofs.Crosses.{log_send, log_sync}
 use Rattle.node_states.specs.contracts.history.WorkerHistory as WorkerHistory
 use Rattle.node_states.specs.contracts.links.WorkerLinks as WorkerLinks
 use Rattle.node_states.specs.contracts.past.SchedulerHistory as SchedulerHistory
-use Rattle.node_runner.specs.Runs.{numbers}
+use Rattle.node_runner.specs.Books.{numbers}
 use Rattle.node_runner.proofs.ClosedRows.{schedulers_books, workers_books, clients_books}
 use Rattle.node_runner.proofs.Crossing.{client_send, client_sync, port_send, port_sync, links_send, links_sync, keyed_send, keyed_sync, scheduler_history_send, scheduler_history_sync, worker_history_send, worker_history_sync}
 use Rattle.node_runner.proofs.run.run_nodes.Goals as goal

@@ -1,7 +1,7 @@
 use Rattle.std.proofs.Common.{◌≡◌, ◌+◌, ◌*◌, ◌/◌, ◌++◌, length, take, arith, ap, refl, ◌∙◌, length-append}
 use Rattle.std.proofs.lemmas.List.{length-take}
 use Rattle.io_edge.specs.Content.{file_at}
-use Rattle.io_edge.specs.Given.{IsWithin}
+use Rattle.io_edge.specs.Transcript.{IsWithin}
 use Rattle.io_edge.proofs.GivenLaws.{only_none, only_then, only_as}
 use Rattle.npy_region.specs.Cells.{first_cells}
 use Rattle.npy_region.proofs.CellLemmas.{read_none, read_step, length-cells}

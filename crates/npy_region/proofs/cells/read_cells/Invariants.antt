@@ -1,6 +1,6 @@
 use Rattle.std.proofs.Common.{◌≡◌, ◌≤◌, ◌+◌, ◌-◌, ◌*◌, length}
 use Rattle.io_edge.specs.Content.{file_at}
-use Rattle.io_edge.specs.Given.{GivesOnly, IsWithin}
+use Rattle.io_edge.specs.Transcript.{GivesOnly, IsWithin}
 use Rattle.npy_region.proofs.CellLemmas.{ReadTo}
 use Rattle.npy_region.proofs.GivenCells.{GivesTo}
 use Rattle.npy_region.proofs.cells.read_cells.Given as goal

@@ -1,6 +1,6 @@
 use Rattle.std.proofs.Common.{◌≡◌, ◌<◌, ◌+◌, ◌*◌, ◌/◌, [], List, ℕ, length, arith, ap, sym, subst, ◌∙◌, refl}
 use Rattle.io_edge.specs.Content.{Content, file_at, size_of}
-use Rattle.io_edge.specs.Given.{IsWithin}
+use Rattle.io_edge.specs.Transcript.{IsWithin}
 use Rattle.io_edge.proofs.GivenLaws.{only_none, only_then, only_as}
 use Rattle.nd_rows.specs.Storage.{Walk, count_of, spot}
 use Rattle.npy_codec.specs.Regions.{number_at}

@@ -1,6 +1,6 @@
 use Rattle.std.proofs.Common.{◌≡◌, ◌*◌, length}
 use Rattle.io_edge.specs.Content.{file_at}
-use Rattle.io_edge.specs.Given.{GivesOnly}
+use Rattle.io_edge.specs.Transcript.{GivesOnly}
 use Rattle.npy_region.specs.Cells.{IsStoredByte}
 use Rattle.npy_region.proofs.GivenCells.{GivesRows}
 use Rattle.npy_region.proofs.RegionLemmas.{StoredTo}

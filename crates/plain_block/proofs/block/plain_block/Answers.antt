@@ -1,6 +1,7 @@
 use Rattle.std.proofs.Common.{◌+◌, List, sym, subst}
 use Rattle.nd_shape.specs.Block.{Array}
-use Rattle.plain_eval.specs.Eval.{HaveBlocks, IsPlain, held_in}
+use Rattle.plain_eval.specs.Eval.{HaveBlocks, IsPlain}
+use Rattle.plain_eval.specs.Held.{held_in}
 use Rattle.plain_block.proofs.block.plain_block.Goals as goal
 
 pub evaluate-requires-clause-blocks : goal.evaluate-requires-clause-blocks

@@ -3,7 +3,8 @@ use Rattle.std.proofs.lemmas.Result.{IfOk-weaker, IfErr-weaker}
 use Rattle.nd_shape.specs.Region.{Box}
 use Rattle.array_expr.specs.declared.expr.Node.{Node}
 use Rattle.plain_eval.specs.declared.plain.PlainOutcome.{PlainOutcome}
-use Rattle.plain_eval.specs.Eval.{HaveBlocks, IsPlain, held_in, inputs_before}
+use Rattle.plain_eval.specs.Eval.{HaveBlocks, IsPlain, inputs_before}
+use Rattle.plain_eval.specs.Held.{held_in}
 use Rattle.input_regions.specs.Widening.{AreFit}
 use Rattle.input_regions.proofs.Enough.{plain-needed}
 use Rattle.plain_block.specs.Files.{AreRead, AreTold, HaveNeeded, RefusesFiles, RefusesRegions, elements_in}

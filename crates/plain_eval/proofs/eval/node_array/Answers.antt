@@ -4,7 +4,7 @@ use Rattle.nd_grid.specs.Grid.{grid_of, filled, ramp, negated, elementwise, chos
 use Rattle.array_expr.specs.Node.{dropped, folded_axes}
 use Rattle.array_expr.specs.Elem.{array_at, formula}
 use Rattle.plain_eval.specs.Fits.{CanTake, CanTurn, CanJoin, CanContractKnown}
-use Rattle.plain_eval.specs.Eval.{held_in}
+use Rattle.plain_eval.specs.Held.{held_in}
 use Rattle.plain_eval.proofs.Nodes.{node-fits, made-by, input-grid, full-fits, ramp-fits, negate-fits, pair-fits, choice-fits, slice-fits, turn-fits, rechunk-fits, join-fits, fold-fits, dot-fits}
 use Rattle.plain_eval.proofs.eval.node_array.Goals as goal
 

@@ -2,7 +2,8 @@ use Rattle.std.proofs.Common.{◌≡◌, ◌+◌, ◌++◌, ◌∷◌, ℕ, Some
 use Rattle.std.proofs.lemmas.Option.{slice_get-get_or}
 use Rattle.array_expr.specs.declared.expr.Node.{Node}
 use Rattle.array_expr.specs.Elem.{Cells, array_at, cells_of, formula, next_input}
-use Rattle.plain_eval.specs.Eval.{HaveShapes, MadeOf, held_in, inputs_in}
+use Rattle.plain_eval.specs.Eval.{HaveShapes, MadeOf, inputs_in}
+use Rattle.plain_eval.specs.Held.{held_in}
 use Rattle.plain_eval.proofs.Arrays.{arrays-none, arrays-next, inputs-next, shapes-next, next-few}
 use Rattle.plain_eval.proofs.plain.arrays_of.Goals as goal
 

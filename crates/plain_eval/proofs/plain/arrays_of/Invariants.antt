@@ -1,6 +1,7 @@
 use Rattle.std.proofs.Common.{◌≡◌, ◌≤◌, take}
 use Rattle.array_expr.specs.Elem.{arrays}
-use Rattle.plain_eval.specs.Eval.{HaveShapes, inputs_before, held_in}
+use Rattle.plain_eval.specs.Eval.{HaveShapes, inputs_before}
+use Rattle.plain_eval.specs.Held.{held_in}
 use Rattle.plain_eval.proofs.plain.arrays_of.Given as goal
 
 abbrev pub invariant-loop-k : goal.invariant-loop-k

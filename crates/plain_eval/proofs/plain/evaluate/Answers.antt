@@ -3,7 +3,8 @@ use Rattle.std.proofs.lemmas.List.{length-take-le}
 use Rattle.nd_shape.specs.Region.{IsPart}
 use Rattle.array_expr.specs.declared.expr.Node.{Node}
 use Rattle.array_expr.specs.Elem.{array_at, arrays}
-use Rattle.plain_eval.specs.Eval.{HaveShapes, IsPartOf, held_in}
+use Rattle.plain_eval.specs.Eval.{HaveShapes, IsPartOf}
+use Rattle.plain_eval.specs.Held.{held_in}
 use Rattle.plain_eval.proofs.Known.{shape-known, there-known, shape-front}
 use Rattle.plain_eval.proofs.Agreeing.{array-before}
 use Rattle.plain_eval.proofs.plain.evaluate.Goals as goal

@@ -1,5 +1,5 @@
 use Rattle.std.proofs.Common.{◌≤◌, map}
-use Rattle.io_edge.specs.View.{OnlyWrites}
+use Rattle.io_edge.specs.Calls.{OnlyWrites}
 use Rattle.saved_files.specs.Kept.{saving_of}
 use Rattle.saved_files.specs.Saving.{GivesBack, TakesAll}
 use Rattle.saved_files.proofs.open.give_all.Given as goal

@@ -4,7 +4,7 @@ use Rattle.std.proofs.lemmas.Bool.{cases_eq}
 use Rattle.small_facts.proofs.Options.{slice_get_at}
 use Rattle.io_edge.specs.Content.{Content}
 use Rattle.npy_codec.specs.declared.head.Head.{Head}
-use Rattle.npy_codec.specs.Regions.{IsWidth}
+use Rattle.npy_codec.specs.Needed.{IsWidth}
 use Rattle.array_expr.specs.declared.expr.Node.{Node}
 use Rattle.array_expr.specs.Elem.{is_input, next_input}
 use Rattle.plain_eval.specs.Eval.{inputs_before}

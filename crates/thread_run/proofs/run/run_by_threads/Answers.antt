@@ -7,7 +7,7 @@ use Rattle.job_run.proofs.Naming.{fits_told}
 use Rattle.job_run.proofs.Running.{HaveAccepted}
 use Rattle.job_run.specs.declared.ends.Ended.TheVariants.{Done, OutOfMemory, WriteFault}
 use Rattle.thread_run.specs.Ends.{left_as, lines_of}
-use Rattle.thread_run.specs.Feeding.{is_told}
+use Rattle.thread_run.specs.Told.{is_told}
 use Rattle.thread_run.proofs.Ending.{done-ends, lowering-ends, outgrown-run, ran-ends, reading-ends, starved-ends, stopped-ends, unprinted-ends}
 use Rattle.thread_run.proofs.Fixed.{first-fixed}
 use Rattle.thread_run.proofs.run.run_by_threads.Goals as goal

@@ -1,6 +1,6 @@
 use Rattle.job_run.specs.Jobs.{plan_of}
 use Rattle.job_run.specs.Told.{named_told}
-use Rattle.thread_run.specs.Feeding.{is_told}
+use Rattle.thread_run.specs.Told.{is_told}
 use Rattle.thread_run.proofs.run.run_by_threads.Given as goal
 
 abbrev pub ghosts-serve-E-Elements : goal.ghosts-serve-E-Elements

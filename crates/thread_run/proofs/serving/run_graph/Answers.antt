@@ -3,7 +3,7 @@ use Rattle.std.proofs.lemmas.Result.{IfErr-at_err, err_from_is_err_and}
 use Rattle.job_run.specs.Jobs.{plan_of}
 use Rattle.job_run.specs.Plan.{Plan}
 use Rattle.job_run.specs.Values.{tasks_of}
-use Rattle.job_run.specs.Wanted.{wanted_of}
+use Rattle.job_run.specs.Keys.{wanted_of}
 use Rattle.block_lowering.specs.Jobs.{graph_of}
 use Rattle.task_graph.specs.Graphs.{shape_of}
 use Rattle.thread_run.specs.Reports.{label}

@@ -6,7 +6,7 @@ use Rattle.io_edge.specs.View.{View}
 use Rattle.job_run.specs.Jobs.{plan_of}
 use Rattle.job_run.specs.Plan.{Plan}
 use Rattle.job_run.specs.Values.{Named}
-use Rattle.node_runner.specs.Runs.{numbers as numbers_of}
+use Rattle.node_runner.specs.Books.{numbers as numbers_of}
 use Rattle.thread_run.specs.Ends.{left_as}
 use Rattle.thread_run.specs.Losses.{losses_in}
 use Rattle.thread_run.specs.Serving.{ServesAll, ServesPart}

@@ -11,7 +11,7 @@ use Rattle.job_run.specs.Evaluating.{HasLaws}
 use Rattle.job_run.specs.Jobs.{plan_of}
 use Rattle.job_run.specs.Plan.{Plan, nodes_saved}
 use Rattle.job_run.specs.Values.{tasks_of}
-use Rattle.job_run.specs.Wanted.{wanted_of}
+use Rattle.job_run.specs.Keys.{wanted_of}
 use Rattle.job_run.proofs.Laws.{saves-there}
 use Rattle.job_run.proofs.Starting.{is_job}
 use Rattle.thread_run.specs.Counts.{feeds as feeds_of, numbers as numbers_in}

@@ -1,5 +1,5 @@
 use Rattle.std.proofs.Common.{◌≡◌}
-use Rattle.io_edge.specs.View.{OnlySpills}
+use Rattle.io_edge.specs.Calls.{OnlySpills}
 use Rattle.thread_run.proofs.stores.give_stores.Given as goal
 
 abbrev pub invariant-loop-store : goal.invariant-loop-store

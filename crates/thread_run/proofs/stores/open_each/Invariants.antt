@@ -1,4 +1,4 @@
-use Rattle.io_edge.specs.View.{OnlySpills}
+use Rattle.io_edge.specs.Calls.{OnlySpills}
 use Rattle.thread_run.specs.Disks.{AsksUpTo}
 use Rattle.thread_run.proofs.stores.open_each.Given as goal
 

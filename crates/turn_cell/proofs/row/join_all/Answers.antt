@@ -1,5 +1,6 @@
 use Rattle.std.proofs.Common.{◌≡◌, ◌+◌, ◌<◌, ◌∙◌, [], ◌∷◌, ◌++◌, sym, subst, arith, rules, vec_len, length, get_or, set}
-use Rattle.turn_cell.specs.Rows.{EachAt, AllBy, HasParts, Mixed}
+use Rattle.turn_cell.specs.Rows.{EachAt, HasParts, Mixed}
+use Rattle.turn_cell.specs.Lists.{AllBy}
 use Rattle.turn_cell.proofs.Lists.{mixed_all, none_of_mixed, mixed_down, here_down, each_at_popped, each_at_last, each_here, some_of}
 use Rattle.turn_cell.proofs.row.join_all.Goals as goal
 

@@ -1,5 +1,6 @@
 use Rattle.std.proofs.Common.{◌≡◌, ◌≤◌, vec_len}
-use Rattle.turn_cell.specs.Rows.{EachAt, AllBy, HasParts, Mixed}
+use Rattle.turn_cell.specs.Rows.{EachAt, HasParts, Mixed}
+use Rattle.turn_cell.specs.Lists.{AllBy}
 use Rattle.turn_cell.proofs.row.join_all.Given as goal
 
 abbrev pub invariant-loop-pass : goal.invariant-loop-pass

@@ -1,6 +1,7 @@
 use Rattle.std.proofs.Common.{◌≡◌, ◌≤◌, vec_len}
 use Rattle.std.specs.Vec.{vec_capacity}
-use Rattle.turn_cell.specs.Rows.{EachAt, AllBy, HasParts, Mixed}
+use Rattle.turn_cell.specs.Rows.{EachAt, HasParts, Mixed}
+use Rattle.turn_cell.specs.Lists.{AllBy}
 use Rattle.turn_cell.proofs.row.split_all.Given as goal
 
 abbrev pub invariant-loop-at : goal.invariant-loop-at

@@ -26,7 +26,7 @@ use denote.Triple.Spec.{Meets, triple_of}
 use denote.Triple.Table.{entered}
 use denote.Triple.Walked.{says, Stays, stay_ref, walk_of, AllGo, Goes-ref, Walks, ends_at, walked, walk_Meets}
 use Rattle.io_edge.specs.declared.transcript.Transcript.{Transcript}
-use Rattle.io_edge.specs.Given.{piece_of}
+use Rattle.io_edge.specs.Transcript.{piece_of}
 use Rattle.io_edge.specs.contracts.transcript.Transcript as T
 use Rattle.io_edge.specs.contracts.transcript.Transcript.note.Key.{name as #it}
 use Rattle.io_edge.specs.contracts.transcript.Transcript.note as it

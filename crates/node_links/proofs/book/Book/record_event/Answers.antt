@@ -1,7 +1,8 @@
 use Rattle.std.proofs.Common.{◌≡◌, ◌∙◌, sym, ap, subst, refl, arith, Some, cond, false, is_some}
 use Rattle.std.proofs.lemmas.Bool.{cond-false, cond-true, false≢true}
 use Rattle.cluster_msgs.specs.declared.events.Entry.{Entry}
-use Rattle.node_links.specs.Books.{BookState, Steps}
+use Rattle.node_links.specs.Books.{Steps}
+use Rattle.node_links.specs.Entering.{BookState}
 use Rattle.node_links.proofs.Recorded.{recorded, entered, ruled}
 use Rattle.node_links.proofs.book.Book.record_event.Goals as goal
 

@@ -1,6 +1,6 @@
 use Rattle.std.proofs.Common.{◌≡◌, ◌∙◌, sym, ap, refl, None, cond, false, is_some}
 use Rattle.cluster_msgs.specs.declared.events.Entry.{Entry}
-use Rattle.node_links.specs.Books.{BookState}
+use Rattle.node_links.specs.Entering.{BookState}
 use Rattle.node_links.proofs.Recorded.{recorded, entered, follows_still}
 use Rattle.node_links.proofs.book.Book.record_still.Goals as goal
 

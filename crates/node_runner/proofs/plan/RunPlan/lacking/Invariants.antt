@@ -1,6 +1,6 @@
 use Rattle.std.proofs.Common.{◌≡◌, ◌+◌, ◌-◌, filter, length, map, take, nat_lt}
 use Rattle.std.specs.Prelude.{vec_len}
-use Rattle.node_runner.specs.Runs.{numbers}
+use Rattle.node_runner.specs.Books.{numbers}
 use Rattle.node_runner.proofs.plan.RunPlan.lacking.Given as goal
 
 abbrev pub invariant-loop-own : goal.invariant-loop-own

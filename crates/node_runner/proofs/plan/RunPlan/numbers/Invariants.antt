@@ -1,7 +1,7 @@
 use Rattle.std.proofs.Common.{◌≡◌, ◌+◌, map, drop}
 use Rattle.std.specs.Prelude.{sum}
 use Rattle.node_states.specs.Order.{joins_of}
-use Rattle.node_runner.specs.Runs.{numbers}
+use Rattle.node_runner.specs.Books.{numbers}
 use Rattle.node_runner.proofs.plan.RunPlan.numbers.Given as goal
 
 abbrev pub invariant-loop-item : goal.invariant-loop-item

@@ -1,9 +1,10 @@
 use Rattle.std.proofs.Common.{◌≡◌, subst}
 use Rattle.scheduler_core.specs.Cores.{facts}
-use Rattle.node_links.specs.Books.{IsLogOf, Steps}
+use Rattle.node_links.specs.Books.{Steps}
+use Rattle.node_links.specs.Entering.{IsLogOf}
 use Rattle.node_states.specs.Fitting.{SchedEventFits}
 use Rattle.node_states.specs.Machines.{SchedSays, SchedBy, scheduler_bytes}
-use Rattle.node_states.specs.Order.{SchedulerPast}
+use Rattle.node_states.specs.Choosing.{SchedulerPast}
 use Rattle.node_states.proofs.past.SchedulerHistory.into_log.Goals as goal
 
 pub returns : goal.returns

@@ -1,5 +1,5 @@
 use Rattle.std.proofs.Common.{sym, subst}
-use Rattle.node_states.specs.Order.{SchedulerPast, IsChosen}
+use Rattle.node_states.specs.Choosing.{SchedulerPast, IsChosen}
 use Rattle.node_states.proofs.CourseLemmas.{goes_on}
 use Rattle.node_states.proofs.Entries.{adds_by}
 use Rattle.node_states.proofs.past.SchedulerHistory.record.Goals as goal

@@ -1,5 +1,6 @@
 use Rattle.std.proofs.Common.{◌≡◌, sym, subst}
-use Rattle.turn_cell.specs.Rows.{AllAt, AllBy, HasParts, berth_of}
+use Rattle.turn_cell.specs.Rows.{AllAt, HasParts, berth_of}
+use Rattle.turn_cell.specs.Lists.{AllBy}
 use Rattle.turn_cell.proofs.Lists.{all_at_map, by_map}
 use Rattle.turn_cell.proofs.made.Made.into_row.Goals as goal
 

@@ -1,5 +1,6 @@
 use Rattle.std.proofs.Common.{subst}
-use Rattle.turn_cell.specs.Rows.{AllBy, HasParts}
+use Rattle.turn_cell.specs.Rows.{HasParts}
+use Rattle.turn_cell.specs.Lists.{AllBy}
 use Rattle.turn_cell.proofs.row.Cells.close.Goals as goal
 
 pub close_all-requires-clause-has : goal.close_all-requires-clause-has

@@ -1,5 +1,6 @@
 use Rattle.std.proofs.Common.{◌≡◌, ◌+◌, ◌-◌, subst, arith}
-use Rattle.turn_cell.specs.Rows.{AllBy, HasParts}
+use Rattle.turn_cell.specs.Rows.{HasParts}
+use Rattle.turn_cell.specs.Lists.{AllBy}
 use Rattle.turn_cell.proofs.row.Home.split.Goals as goal
 
 pub split_all-requires-clause-has : goal.split_all-requires-clause-has
