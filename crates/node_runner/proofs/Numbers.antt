@@ -1,8 +1,8 @@
 -- How many joins of a script are left, how many its first items make, and how many items that take a worker away.
-use Rattle.std.proofs.Common.{◌≡◌, ◌∙◌, ℕ, ◌+◌, ◌<◌, ◌≤◌, List, [], ◌∷◌, map, map-append, take, drop, length, get_or, ap, subst, arith}
+use Rattle.std.proofs.Common.{◌≡◌, ◌∙◌, ℕ, ◌+◌, ◌<◌, ◌≤◌, List, [], ◌∷◌, map, take, drop, length, get_or, ap, subst, arith}
 use Rattle.std.specs.Prelude.{sum}
 use Rattle.std.specs.List.{fold}
-use Rattle.std.proofs.lemmas.List.{drop_more, drop_all, take_more, get_or_default}
+use Rattle.std.proofs.lemmas.List.{drop_more, drop_all, take_more, get_or_default, map-append}
 use Rattle.std.proofs.lemmas.List.Sums.{fold-append}
 use Rattle.small_facts.proofs.Lists.{fold_is_sum}
 use Rattle.cluster_msgs.specs.declared.events.Item.{Item}
