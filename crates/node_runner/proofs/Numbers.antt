@@ -1,13 +1,14 @@
 -- How many joins of a script are left, how many its first items make, and how many items that take a worker away.
-use Rattle.std.proofs.Common.{◌≡◌, ◌∙◌, ℕ, zero, suc, ◌+◌, ◌<◌, ◌≤◌, List, [], ◌∷◌, map, map-append, take, drop, length, get_or, ap, subst, arith}
+use Rattle.std.proofs.Common.{◌≡◌, ◌∙◌, ℕ, ◌+◌, ◌<◌, ◌≤◌, List, [], ◌∷◌, map, take, drop, length, get_or, ap, subst, arith}
 use Rattle.std.specs.Prelude.{sum}
 use Rattle.std.specs.List.{fold}
-use Rattle.std.proofs.lemmas.List.{drop_more, drop_all, take_more}
+use Rattle.std.proofs.lemmas.List.{drop_more, drop_all, take_more, get_or_default, map-append}
 use Rattle.std.proofs.lemmas.List.Sums.{fold-append}
 use Rattle.small_facts.proofs.Lists.{fold_is_sum}
 use Rattle.cluster_msgs.specs.declared.events.Item.{Item}
-use Rattle.cluster_msgs.specs.declared.events.Item.TheVariants as item
 use Rattle.node_states.specs.Order.{joins_of}
+use Rattle.node_runner.specs.declared.plan.RunPlan.{RunPlan}
+use Rattle.node_runner.specs.Runs.{IsNamed, Names}
 use Rattle.cluster_msgs.specs.Scripts.{removes_of}
 
 pub joins_next : (xs : List Item) (i : ℕ) (d : Item) → i < length xs → sum (map joins_of (drop i xs)) ≡ joins_of (get_or xs i d) + sum (map joins_of (drop (i + 1) xs))
@@ -28,24 +29,18 @@ removals_next xs i d less =
 pub removals_end : (xs : List Item) (i : ℕ) → i ≡ length xs → sum (map removes_of (drop i xs)) ≡ 0
 removals_end xs i e = ap (λ ys. sum (map removes_of ys)) (drop_all i xs (omega (arith, e)))
 
-joins_one : (i : Item) → joins_of i ≤ 1
-joins_one (item.Lose w at) = omega arith
-joins_one (item.Suspect w at) = omega arith
-joins_one (item.Join at) = omega arith
-
 -- how many join by the first items
 pub joins_before : (xs : List Item) (i : ℕ) (d : Item) → i < length xs → sum (map joins_of (take (i + 1) xs)) ≡ sum (map joins_of (take i xs)) + joins_of (get_or xs i d)
 joins_before xs i d less =
     let first : List ℕ = map joins_of (take i xs) in
     ap (λ ys. sum (map joins_of ys)) (take_more xs i d less) ∙ ap sum (map-append joins_of (take i xs) (get_or xs i d ∷ [])) ∙ fold-append ◌+◌ 0 first (joins_of (get_or xs i d) ∷ [])
 
--- no more than one by an item
-pub joins_first : (xs : List Item) (i : ℕ) → i ≤ length xs → sum (map joins_of (take i xs)) ≤ i
-joins_first xs zero less = omega arith
-joins_first xs (suc i) less =
-    let d : Item = item.Join 0 in
-    let step : sum (map joins_of (take (i + 1) xs)) ≡ sum (map joins_of (take i xs)) + joins_of (get_or xs i d) = joins_before xs i d (omega (arith, less)) in
-    let before = joins_first xs i (omega (arith, less)) in
-    let one = joins_one (get_or xs i d) in
-    let z : i + 1 ≡ suc i = omega arith in
-    subst (λ n. sum (map joins_of (take n xs)) ≤ n) z (omega (arith, step, before, one))
+-- the item at a place names the worker, and those that join before it have joined
+pub named_at : (p : RunPlan) (joined w i : ℕ) (d : Item) → i < length p.script → Names w (get_or p.script i d) → p.workers + sum (map joins_of (take i p.script)) ≤ joined
+    → IsNamed p joined w
+named_at p joined w i d less named made = record {
+  place = i;
+  within = less;
+  names = λ e. subst (Names w) (get_or_default p.script i d e less) named;
+  made = made;
+}

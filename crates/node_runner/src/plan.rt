@@ -1,8 +1,8 @@
 //! What a run is to be like.
 ghost use Rattle.std.specs.Prelude.{◌≡◌, ◌<◌, ◌≤◌, ℕ, true, map, vec_len, Contains};
 ghost use Rattle.cluster_msgs.specs.Scripts.{removes_of};
-ghost use Rattle.node_runner.specs.Outcomes.{IsNamed, removals};
-ghost use Rattle.node_runner.specs.Outcomes.{lacking_feeds};
+ghost use Rattle.node_states.specs.Order.{joins_of};
+ghost use Rattle.node_runner.specs.Outcomes.{IsNamed, Names, lacking_feeds, removals};
 ghost use Rattle.node_runner.specs.Books.{numbers};
 
 use crate::ends::one_if;
@@ -39,20 +39,23 @@ impl RunPlan {
     }
 
     /// Whether an item of the script names a worker, and of so many workers that joined are all that join before the item.
-    #[tactic(auto, using(crate::proofs::Numbers::joins_before, crate::proofs::Numbers::joins_first))]
+    #[tactic(auto, using(crate::proofs::Numbers::joins_before, crate::proofs::Numbers::named_at))]
     pub fn names(&self, worker: u32, joined: u32) -> bool
         ensures { result ≡ true → IsNamed self.now joined worker }
     {
-        let mut before = self.workers as u64;
+        if joined < self.workers {
+            return false;
+        }
+        let mut left = joined - self.workers;
         for item in self.script.as_slice() {
-            match item {
-                Item::Join { at: _ } => before += 1,
-                Item::Lose { w, at: _ } | Item::Suspect { w, at: _ } => {
-                    if *w == worker {
-                        return before <= joined as u64;
-                    }
-                }
+            if is_named(item, worker) {
+                return true;
             }
+            let joins = joins_of(item);
+            if left < joins {
+                return false;
+            }
+            left -= joins;
         }
         false
     }
@@ -101,5 +104,25 @@ fn removes_of(item: &Item) -> u32
     match item {
         Item::Lose { w: _, at: _ } | Item::Suspect { w: _, at: _ } => 1,
         Item::Join { at: _ } => 0,
+    }
+}
+
+/// How many workers join by an item.
+fn joins_of(item: &Item) -> u32
+    ensures { result ≡ joins_of item.now }
+{
+    match item {
+        Item::Join { at: _ } => 1,
+        Item::Lose { w: _, at: _ } | Item::Suspect { w: _, at: _ } => 0,
+    }
+}
+
+/// Whether an item names a worker.
+fn is_named(item: &Item, worker: u32) -> bool
+    ensures { result ≡ true → Names worker item.now }
+{
+    match item {
+        Item::Lose { w, at: _ } | Item::Suspect { w, at: _ } => *w == worker,
+        Item::Join { at: _ } => false,
     }
 }
