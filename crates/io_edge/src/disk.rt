@@ -8,7 +8,7 @@ use crate::Failed;
 /// A place that holds bytes under keys. It may tell what it holds; a real one tells the count of its faults alone.
 ///
 /// No call takes memory, but a `put`, which fails with a raised count where it finds none.
-pub trait SpillDisk: Send + Sync + Drop {
+pub trait SpillDisk: Drop {
     /// What it tells.
     ghost view: { Self → DiskView };
 

@@ -256,6 +256,10 @@ serves-between p most last old mid served new a asks f b still =
 pub serves-spilled : (p : Plan) (most last : ℕ) (old new : View) → OnlySpills old new → AsksUpTo last old.spills.asked new.spills.asked → ServesFiles p most last old new
 serves-spilled p most last old new only asks = serves-between p most last old new new new only asks (serves-none p most new new (opens-zero p.inputs most new)) (spills_none new) refl
 
+-- a store was given back, and no more
+pub serves_given : (p : Plan) (most last : ℕ) (old new : View) → new.files ≡ old.files → OnlyReads old new → new.read_faults ≡ old.read_faults → ServesFiles p most last old new
+serves_given p most last old new same only reads = serves-after p most last old new new same only reads (serves-spilled p most last new new (spills_none new) (asks_same last new new refl))
+
 -- ## The ends
 
 -- where all files were created

@@ -365,7 +365,7 @@ where
 /// # Errors
 /// How the run ends: a zero divisor or a killed key that the client was told of, a fault, a core that has taken all events that it takes, or want of
 /// memory.
-#[tactic(auto, using(crate::proofs::Serves::part_none))]
+#[tactic(auto, using(crate::proofs::Serves::part_none, crate::proofs::Serves::serves_given))]
 pub fn serve<R, S, G, E, V>(
     rt: &R,
     alloc: Global,

@@ -12,7 +12,7 @@ use std::alloc::{AllocError, Global};
 use worker_store::SpillingBlocks;
 
 // The disk of a worker. Where it can't be made the worker has none.
-#[tactic(auto, using(io_edge::proofs::Only::spills_none, crate::proofs::Asking::asks_for, crate::proofs::Asking::asks_not))]
+#[tactic(auto, using(io_edge::proofs::Only::spills_none, crate::proofs::Asking::asks_not))]
 fn open_disk<S: Site>(
     alloc: Global,
     site: &mut S,

@@ -135,7 +135,7 @@ returns-clause-stopped g c =
     (why-of facts (graph_of c.args.graph.now.job) c.args.plan.now c.args.wanted.now.all _ reads ends.result ends.left.items ends.histories
     (λ f. elim f [
       | inl few ↦ inl few
-      | inr failed ↦ inr (rose_after old.read_faults back.read_faults new.read_faults (omega (arith, ap (λ (v : View). v.read_faults) c.give-written.ensures.only.rest)) (rose_first old.read_faults made.read_faults back.read_faults (omega (arith, c.open.ensures.only.read_faults)) (c.give_feeds.ensures.risen failed)))
+      | inr failed ↦ inr (rose_after old.read_faults back.read_faults new.read_faults (omega (arith, ap (λ (v : View). v.read_faults) c.give-written.ensures.only.rest)) (rose_first old.read_faults made.read_faults back.read_faults (omega (arith, ap (λ (v : View). v.read_faults) c.open.ensures.only.rest)) (c.give_feeds.ensures.risen failed)))
     ]) c.run_cluster-ends.ensures.ended)
     (λ e. rose_first old.write_faults back.write_faults new.write_faults (omega (arith, c.open.ensures.cause.later, ap (λ (v : View). v.write_faults) c.give_feeds.ensures.only.rest)) (c.give-written.ensures.failed e)) c.ended.ensures.stopped
 
