@@ -8,7 +8,7 @@ use Rattle.small_facts.proofs.Lists.{fold_is_sum}
 use Rattle.cluster_msgs.specs.declared.events.Item.{Item}
 use Rattle.node_states.specs.Order.{joins_of}
 use Rattle.node_runner.specs.declared.plan.RunPlan.{RunPlan}
-use Rattle.node_runner.specs.Runs.{IsNamed, Names}
+use Rattle.node_runner.specs.Outcomes.{IsNamed, Names}
 use Rattle.cluster_msgs.specs.Scripts.{removes_of}
 
 pub joins_next : (xs : List Item) (i : ℕ) (d : Item) → i < length xs → sum (map joins_of (drop i xs)) ≡ joins_of (get_or xs i d) + sum (map joins_of (drop (i + 1) xs))
