@@ -1,7 +1,7 @@
 //! The blocks of a worker, some of them on a disk.
 //!
 //! A [`SpillStore`] is a map from keys to blocks. While the blocks in memory have more than six tenths of its limit, the
-//! one that was used least recently is put on a [`Disk`], which each `SpillDisk` of `io_edge` is. It carries one promise upwards:
+//! one that was used least recently is put on a `SpillDisk` of `io_edge`. It carries one promise upwards:
 //! **what is got under a key is the block that was put there, or the store says by which fault of the disk it was lost**. It
 //! stands on the arrays' shapes, on the edge's counts of faults, and on the bytes of elements as files have them;
 //! `worker_store`, a node's store of blocks, stands on it.
@@ -9,7 +9,6 @@
 
 mod block_bytes;
 mod digested;
-mod disk;
 mod lost;
 mod memory;
 mod rest;
@@ -20,6 +19,5 @@ mod table;
 mod was;
 
 pub use digested::Digested;
-pub use disk::Disk;
 pub use lost::{Got, LostBy};
 pub use store::SpillStore;

@@ -8,10 +8,10 @@ ghost use Rattle.spill_store.specs.Table.{ChangesAt};
 
 use crate::block_bytes::words_of;
 use crate::digested::{Ahead, Digested, Known};
-use crate::disk::Disk;
 use crate::lost::LostBy;
 use crate::spilled::{Spilled, block_of};
 use crate::table::Table;
+use io_edge::SpillDisk;
 use nd_shape::Block;
 use std::alloc::{AllocError, Global};
 use std::marker::Model;
@@ -48,7 +48,7 @@ pub(crate) enum Fetched {
 /// they need not be written once more; what is known of blocks in memory that aren't there and were given out to be
 /// digested; and how many blocks it gave back otherwise than they were.
 #[derive(Drop)]
-pub(crate) struct Shelf<D: Disk> {
+pub(crate) struct Shelf<D: SpillDisk> {
     disk: D,
     blocks: Table<Spilled>,
     twice: Table<Known>,
@@ -56,7 +56,7 @@ pub(crate) struct Shelf<D: Disk> {
     spoiled: u64,
 }
 
-impl<D: Disk> Model for Shelf<D> {
+impl<D: SpillDisk> Model for Shelf<D> {
     ghost use Rattle.spill_store.specs.Shelves.{AreThere, Shelved};
 
     ghost Value = { Shelved D };
@@ -66,7 +66,7 @@ impl<D: Disk> Model for Shelf<D> {
     ghost invariant = { λ s. AreThere (D.view s.disk) s.blocks × AreThere (D.view s.disk) s.twice };
 }
 
-impl<D: Disk> Shelf<D> {
+impl<D: SpillDisk> Shelf<D> {
     /// A disk of which nothing is known. Where memory is wanting, it is handed back.
     #[tactic(auto, using(crate::proofs::Shelving::nothing_in))]
     pub(crate) fn new(alloc: Global, disk: D) -> Result<Self, (D, AllocError)>
@@ -302,7 +302,7 @@ fn known_of(
 }
 
 // Puts a block on a disk, of which these blocks are there.
-fn put_anew<D: Disk>(
+fn put_anew<D: SpillDisk>(
     disk: &mut D,
     blocks: &mut Table<Spilled>,
     alloc: Global,

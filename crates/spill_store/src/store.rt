@@ -10,11 +10,11 @@ ghost use Rattle.spill_store.specs.Steps.{FetchesIn, Finds, IsBackIn, IsFound, S
 ghost use Rattle.spill_store.specs.Table.{ChangesAt, put_first};
 
 use crate::digested::Digested;
-use crate::disk::Disk;
 use crate::lost::Got;
 use crate::memory::{Held, Memory};
 use crate::rest::Rest;
 use crate::shelf::{Fetched, Shelf, Stage, Taken};
+use io_edge::SpillDisk;
 use nd_shape::Block;
 use std::alloc::{AllocError, Global};
 use std::marker::Model;
@@ -28,7 +28,7 @@ use std::sync::Arc;
 /// eight times or has given back eight blocks otherwise than they were, where it refuses the block, and where there is no
 /// memory for what a block on the disk needs: the block stays in memory then.
 #[derive(Drop)]
-pub struct SpillStore<D: Disk> {
+pub struct SpillStore<D: SpillDisk> {
     alloc: Global,
     memory: Memory,
     shelf: Option<Shelf<D>>,
@@ -37,7 +37,7 @@ pub struct SpillStore<D: Disk> {
     news: Vec<u32>,
 }
 
-impl<D: Disk> Model for SpillStore<D> {
+impl<D: SpillDisk> Model for SpillStore<D> {
     ghost use Rattle.spill_store.specs.Shelves.{AreThere};
     ghost use Rattle.spill_store.specs.Store.{Kept};
 
@@ -46,7 +46,7 @@ impl<D: Disk> Model for SpillStore<D> {
     ghost view = { λ s. record { memory = s.memory; shelf = s.shelf; limit = s.limit; times = s.times; news = s.news.items } };
 }
 
-impl<D: Disk> SpillStore<D> {
+impl<D: SpillDisk> SpillStore<D> {
     /// A store that keeps nothing. Its limit is in bytes, of the elements of the blocks in memory. Without a disk nothing
     /// goes there.
     ///
@@ -428,7 +428,7 @@ impl<D: Disk> SpillStore<D> {
 }
 
 // How far the digest of the block of a key is, which is in memory. No memory.
-fn stage_of<D: Disk>(shelf: &Option<Shelf<D>>, key: u32) -> Stage {
+fn stage_of<D: SpillDisk>(shelf: &Option<Shelf<D>>, key: u32) -> Stage {
     match shelf {
         Some(shelf) => shelf.stage(key),
         None => Stage::Settled,

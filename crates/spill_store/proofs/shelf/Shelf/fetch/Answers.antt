@@ -9,8 +9,8 @@ returns-in_default-get-clause-fetched g c = rw (← c.self.view_is) (record { ar
 
 pub returns-in-Some-differs-clause-fetched : goal.returns-in-Some-differs-clause-fetched
 returns-in-Some-differs-clause-fetched g c =
-    let v = g.D.Disk.view c.self.inside.disk in
-    let w = g.D.Disk.view c.get-2.new.self in
+    let v = g.D.SpillDisk.view c.self.inside.disk in
+    let w = g.D.SpillDisk.view c.get-2.new.self in
     let a = c.in-Some.spilled.now in
     let was = sym c.in-Some.ensures in
     let long : length c.as_mut_slice.result.now ≡ size_of_block a = omega (arith, c.as_mut_slice.ensures.len, c.in_ok-bytes.ensures.len, c.size.ensures.size) in
@@ -25,7 +25,7 @@ returns-in-Some-differs-clause-fetched g c =
 
 pub returns-clause-fetched : goal.returns-clause-fetched
 returns-clause-fetched g c =
-    let v = g.D.Disk.view c.self.inside.disk in
+    let v = g.D.SpillDisk.view c.self.inside.disk in
     let a = c.in-Some.spilled.now in
     let b = c.in_ok-block.block in
     let was = sym c.in-Some.ensures in

@@ -12,7 +12,7 @@ returns-clause-removes g c =
     let key = c.args.key in
     let memory : c.self.inside.memory ≡ old.memory = ap (λ s. s.memory) c.self.view_is ∙ c.forget.ensures.memory in
     let shelf : c.self.inside.shelf ≡ c.forget.new.self.shelf = ap (λ s. s.shelf) c.self.view_is in
-    removed g.D.Disk.view key old (record { memory = c.remove.new.self; shelf = c.self.inside.shelf; limit = c.self.inside.limit; times = c.self.inside.times; news = c.self.inside.news.items }) (c.remove.ensures.entries ∙ ap (remove_entry (nat_eq key)) memory)
+    removed g.D.SpillDisk.view key old (record { memory = c.remove.new.self; shelf = c.self.inside.shelf; limit = c.self.inside.limit; times = c.self.inside.times; news = c.self.inside.news.items }) (c.remove.ensures.entries ∙ ap (remove_entry (nat_eq key)) memory)
     (subst (λ ms. ChangesAt key None ms c.remove.new.self) memory c.remove.ensures.changes)
     (subst (λ h. ChangesAt key None (away_in old.shelf) (away_in h)) (sym shelf) c.forget.ensures.gone)
     (ap (λ s. s.times) c.self.view_is ∙ c.forget.ensures.times)

@@ -5,13 +5,13 @@ use Rattle.spill_store.proofs.store.SpillStore.spill.Goals as goal
 
 pub loop-self-init : goal.loop-self-init
 loop-self-init g c =
-    let view = g.D.Disk.view in
+    let view = g.D.SpillDisk.view in
     let old = c.args.self.now in
     record { limit = refl; disk = same_refl view old.shelf; all = all_refl view old; some = spills_none view old }
 
 pub loop-self-preserved : goal.loop-self-preserved
 loop-self-preserved g c =
-    let view = g.D.Disk.view in
+    let view = g.D.SpillDisk.view in
     let old = c.args.self.now in
     let here = c.loop-self.self in
     let new = c.spill_oldest.new.self in

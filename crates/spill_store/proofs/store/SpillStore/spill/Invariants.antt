@@ -6,9 +6,9 @@ use Rattle.spill_store.proofs.store.SpillStore.spill.Given as goal
 abbrev pub invariant-loop-self : goal.invariant-loop-self
 invariant-loop-self g l = record {
   limit : l.self.limit ≡ l.fn.self.limit;
-  disk : SameDisk g.D.Disk.view l.fn.self.shelf l.self.shelf;
+  disk : SameDisk g.D.SpillDisk.view l.fn.self.shelf l.self.shelf;
   all : AllStay l.fn.self l.self;
-  some : SpillsSome g.D.Disk.view l.fn.self l.self;
+  some : SpillsSome g.D.SpillDisk.view l.fn.self l.self;
 }
 
 abbrev pub decreases-loop-self : goal.decreases-loop-self

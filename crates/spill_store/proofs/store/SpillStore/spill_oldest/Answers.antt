@@ -7,7 +7,7 @@ use Rattle.spill_store.proofs.store.SpillStore.spill_oldest.Goals as goal
 
 pub returns-in-Yes-clause-step : goal.returns-in-Yes-clause-step
 returns-in-Yes-clause-step g c =
-    let view = g.D.Disk.view in
+    let view = g.D.SpillDisk.view in
     let key = c.in-Some-oldest.key in
     let a = c.in-Some-oldest.block.now in
     let here : Some c.in-Some.shelf ≡ c.self.inside.shelf = sym c.in-Some.is in
