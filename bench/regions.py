@@ -24,7 +24,7 @@ FILES = [('C', '<i8'), ('F', '<i8'), *(('C', dtype) for dtype in ('>i8', '<i4', 
 MAIN = '''//! Adds up the elements of a file of two axes, square by square.
 #![tactic(auto)]
 ghost use Rattle.std.specs.Prelude.{◌≡◌, ◌<◌, IsTrue, length};
-ghost use Rattle.npy_codec.specs.Regions.{IsWidth};
+ghost use Rattle.npy_codec.specs.Needed.{IsWidth};
 
 use io_edge::{RealSite, Site, Store};
 use nd_shape::Region;
