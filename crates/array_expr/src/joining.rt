@@ -24,7 +24,8 @@ pub fn dims_of(nodes: &[Node], node: NodeId) -> &[u64]
 // The number of axes of the first operand that has another number than this.
 fn other_number(nodes: &[Node], of: &[NodeId], axes: u64) -> Option<u64>
     requires { All (λ k. k < length nodes.now) of.now }
-    ensures { MatchOption result (All (λ dims. length dims ≡ axes) (map (shape_at nodes.now) of.now)) (λ right. IsFirstOther (λ dims. length dims) (map (shape_at nodes.now) of.now) axes right) }
+    ensures { MatchOption result (All (λ dims. length dims
+        ≡ axes) (map (shape_at nodes.now) of.now)) (λ right. IsFirstOther (λ dims. length dims) (map (shape_at nodes.now) of.now) axes right) }
 {
     for node in of {
         let other = dims_of(nodes, *node).len() as u64;
@@ -39,7 +40,8 @@ fn other_number(nodes: &[Node], of: &[NodeId], axes: u64) -> Option<u64>
 fn other_length(nodes: &[Node], of: &[NodeId], axis: usize, len: u64) -> Option<u64>
     requires names { All (λ k. k < length nodes.now) of.now }
     requires axes { All (λ dims. axis < length dims) (map (shape_at nodes.now) of.now) }
-    ensures { MatchOption result (All (λ dims. slice_index dims axis ≡ len) (map (shape_at nodes.now) of.now)) (λ right. IsFirstOther (λ dims. slice_index dims axis) (map (shape_at nodes.now) of.now) len right) }
+    ensures { MatchOption result (All (λ dims. slice_index dims axis
+        ≡ len) (map (shape_at nodes.now) of.now)) (λ right. IsFirstOther (λ dims. slice_index dims axis) (map (shape_at nodes.now) of.now) len right) }
 {
     for node in of {
         let other = dims_of(nodes, *node)[axis];

@@ -48,7 +48,8 @@ pub fn known_unfolds()
 
 /// A key is needed where it is wanted, or a dependent is needed, not held and not erred.
 pub fn need_unfolds()
-    ensures { (f : SchedFacts) → IsSound f → (k : ℕ) → need f k ≡ (wanted f k || list_any (λ j. is_in k (deps f j) && (open_key f j && need f j)) (below (keys f))) }
+    ensures { (f : SchedFacts) → IsSound f → (k : ℕ) → need f k
+        ≡ (wanted f k || list_any (λ j. is_in k (deps f j) && (open_key f j && need f j)) (below (keys f))) }
 {}
 
 /// An erred key is blamed on itself where it is bad, else on what its least erred dependency is blamed on.
@@ -100,7 +101,8 @@ pub fn level_is_the_least()
 pub fn messages_stand_in_order()
     ensures workers { (f : SchedFacts) (e : SchedEvent) → Ascends (λ m n. m.0 ≤ n.0) (sched_step f e).down }
     ensures own { (f : SchedFacts) (e : SchedEvent) (w : ℕ) → let t = settle f (change f e) in is_in w (workers t.placed) ≡ true →
-        mail w (sched_step f e).down ≡ mail w (free_message w (lost_keys t w)) ++ (mail w (task_messages t.placed t.before.counter w) ++ t.changed.answer t.placed w) }
+        mail w (sched_step f e).down ≡ mail w (free_message w (lost_keys t w))
+        ++ (mail w (task_messages t.placed t.before.counter w) ++ t.changed.answer t.placed w) }
     ensures others { (f : SchedFacts) (e : SchedEvent) (w : ℕ) → is_in w (workers (settle f (change f e)).placed) ≡ false → mail w (sched_step f e).down ≡ [] }
     ensures lost { (f : SchedFacts) (e : SchedEvent) (w : ℕ) → Ascends (λ j k. j < k) (lost_keys (settle f (change f e)) w) }
     ensures tasks { (f : SchedFacts) (since w : ℕ) → Ascends (λ m n. task_key m.1 < task_key n.1) (task_messages f since w) }
@@ -115,7 +117,8 @@ pub fn facts_stay_in_range()
 
 /// The member with the least rank of two lists that are joined is the lesser of theirs, the first of two equal ones.
 pub fn least_of_joined_lists()
-    ensures { (rank : ℕ → List ℕ) (xs ys : List ℕ) → least_by rank (xs ++ ys) ≡ better (λ y z. is_before (rank y) (rank z)) (least_by rank xs) (least_by rank ys) }
+    ensures { (rank : ℕ → List ℕ) (xs ys : List ℕ) → least_by rank (xs ++ ys)
+        ≡ better (λ y z. is_before (rank y) (rank z)) (least_by rank xs) (least_by rank ys) }
 {}
 
 /// The work and the bytes at a worker are bounded by the largest work and block of all keys, and fit 64 bits.

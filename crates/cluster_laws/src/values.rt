@@ -36,7 +36,8 @@ pub fn clients_get_values<J: JobSpec>(job: &J)
         (es : List Event) → legal (job_of s (J.operation job.now)) es → (c k : ℕ) →
         ((reached (job_of s (J.operation job.now)) es).clients c).got k ≡ true →
         is_some ((cluster_run (J.operation job.now) (opening_cluster s (J.operation job.now)) es).blocks.got c k) ≡ true }
-    ensures failed { IsShape (J.graph job.now) → (clients saturation : ℕ) (allowed : Option ℕ) → let s = setting_of (J.graph job.now) clients saturation allowed in
+    ensures failed { IsShape (J.graph job.now) → (clients saturation : ℕ) (allowed : Option ℕ)
+        → let s = setting_of (J.graph job.now) clients saturation allowed in
         (es : List Event) → legal (job_of s (J.operation job.now)) es → (c k b : ℕ) →
         ((reached (job_of s (J.operation job.now)) es).clients c).failed k ≡ Some b →
         IsBlamed (WasKilled (job_of s (J.operation job.now)) es) (deps_of (J.graph job.now)) (val (deps_of (J.graph job.now)) (J.operation job.now)) k b }

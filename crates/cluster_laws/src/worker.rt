@@ -20,8 +20,12 @@ pub fn each_event_keeps_a_worker()
 
 /// What it is to be ready, to be fetched, to be missing, and to be a task that can still be given up.
 pub fn what_states_are()
-    ensures ready { (w : WorkerFacts) (k : ℕ) → is_ready_state (wstate w k) ≡ (not (w.mem k) && (not (w.running k) && (not (flying w k) && (is_some (w.mine k) && is_fed w k)))) }
-    ensures fetch { (w : WorkerFacts) (k : ℕ) → is_fetch_state (wstate w k) ≡ (not (w.mem k) && (not (w.running k) && (not (flying w k) && (not (is_some (w.mine k)) && (is_wanted w k && has_any (w.holders k)))))) }
-    ensures missing { (w : WorkerFacts) (k : ℕ) → is_missing_state (wstate w k) ≡ (not (w.mem k) && (not (w.running k) && (not (flying w k) && (not (is_some (w.mine k)) && (is_wanted w k && not (has_any (w.holders k))))))) }
-    ensures unstarted { (w : WorkerFacts) (k : ℕ) → is_unstarted_state (wstate w k) ≡ (not (w.mem k) && (not (w.running k) && (not (flying w k) && is_some (w.mine k)))) }
+    ensures ready { (w : WorkerFacts) (k : ℕ) → is_ready_state (wstate w k)
+        ≡ (not (w.mem k) && (not (w.running k) && (not (flying w k) && (is_some (w.mine k) && is_fed w k)))) }
+    ensures fetch { (w : WorkerFacts) (k : ℕ) → is_fetch_state (wstate w k)
+        ≡ (not (w.mem k) && (not (w.running k) && (not (flying w k) && (not (is_some (w.mine k)) && (is_wanted w k && has_any (w.holders k)))))) }
+    ensures missing { (w : WorkerFacts) (k : ℕ) → is_missing_state (wstate w k)
+        ≡ (not (w.mem k) && (not (w.running k) && (not (flying w k) && (not (is_some (w.mine k)) && (is_wanted w k && not (has_any (w.holders k))))))) }
+    ensures unstarted { (w : WorkerFacts) (k : ℕ) → is_unstarted_state (wstate w k)
+        ≡ (not (w.mem k) && (not (w.running k) && (not (flying w k) && is_some (w.mine k)))) }
 {}

@@ -29,7 +29,8 @@ pub fn worker_on(
 ) -> Result<(), Stop>
     requires { worker < length workers.old.items }
     ensures facts { OnOk result ((g : Shape) (alive : List Bool) → read alive false worker ≡ true →
-        workers_of g alive workers.new.items ≡ put (workers_of g alive workers.old.items) worker (worker_step (workers_of g alive workers.old.items worker) event).facts) }
+        workers_of g alive workers.new.items
+        ≡ put (workers_of g alive workers.old.items) worker (worker_step (workers_of g alive workers.old.items worker) event).facts) }
     ensures out { OnOk result ((g : Shape) (alive : List Bool) → read alive false worker ≡ true →
         out.new ≡ out.old ++ (worker_step (workers_of g alive workers.old.items worker) event).out) }
     ensures possible { OnOk result ((g : Shape) (alive : List Bool) → read alive false worker ≡ true →
@@ -56,7 +57,8 @@ pub fn client_on(
     out: &mut ClientOut,
 ) -> Result<(), Stop>
     requires { client < length clients.old.items }
-    ensures facts { OnOk result ((g : Shape) → clients_of g clients.new.items ≡ put (clients_of g clients.old.items) client (client_step (clients_of g clients.old.items client) event).facts) }
+    ensures facts { OnOk result ((g : Shape) → clients_of g clients.new.items
+        ≡ put (clients_of g clients.old.items) client (client_step (clients_of g clients.old.items client) event).facts) }
     ensures out { OnOk result ((g : Shape) → out.new ≡ out.old ++ (client_step (clients_of g clients.old.items client) event).out) }
     ensures possible { OnOk result ((g : Shape) → client_takes (clients_of g clients.old.items client) event ≡ true) }
     ensures over { OnOk result ((g : Shape) → AreClientsOver g clients.old.items → AreClientsOver g clients.new.items) }
@@ -95,7 +97,8 @@ pub fn unspill(
 fn unspill_lost(spilled: &mut Grid<bool>, worker: u32, core: &WorkerCore, keys: u32, lost: &[u32])
     requires row { worker < height spilled.old }
     requires keys { keys ≡ width spilled.old }
-    ensures meaning { (w k : ℕ) → cell spilled.new false w k ≡ cond (w == worker && is_in k lost.now) (cell spilled.old false w k && (facts core.now).mem k) (cell spilled.old false w k) }
+    ensures meaning { (w k : ℕ) → cell spilled.new false w k
+        ≡ cond (w == worker && is_in k lost.now) (cell spilled.old false w k && (facts core.now).mem k) (cell spilled.old false w k) }
     ensures height { height spilled.new ≡ height spilled.old }
     ensures width { width spilled.new ≡ width spilled.old }
 {

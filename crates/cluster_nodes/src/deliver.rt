@@ -25,11 +25,13 @@ impl<B: Drop> Nodes<B> {
         requires nodes { IsNodes self.old }
         requires worker { worker < length self.old.workers.items }
         requires alive { read self.old.alive false worker ≡ true }
-        ensures cluster { OnOk result ((f : Facts) → cluster_of f self.new ≡ down_delivered (cluster_of f self.old) worker ((world_of f self.old).down worker)) }
+        ensures cluster { OnOk result ((f : Facts) → cluster_of f self.new
+            ≡ down_delivered (cluster_of f self.old) worker ((world_of f self.old).down worker)) }
         ensures nodes { OnOk result (IsNodes self.new) }
         ensures same { OnOk result (HasSameNodes self.old self.new) }
         ensures few { OnOk result ((n : ℕ) → TookFew n self.old → TookFew (n + 1) self.new) }
-        ensures refused { result ≡ Err Stop.Refused → (f : Facts) → IsSomeAnd (first_of ((world_of f self.old).down worker)) (λ m. worker_takes ((world_of f self.old).workers worker) (to_worker.Down m) ≡ false) }
+        ensures refused { result ≡ Err Stop.Refused → (f : Facts)
+            → IsSomeAnd (first_of ((world_of f self.old).down worker)) (λ m. worker_takes ((world_of f self.old).workers worker) (to_worker.Down m) ≡ false) }
         ensures spent { result ≡ Err Stop.Spent → (n : ℕ) → TookFew n self.old → event_limit ≤ n }
     {
         match pop_down(&mut self.down, worker) {
@@ -48,11 +50,13 @@ impl<B: Drop> Nodes<B> {
     pub fn deliver_to_client(&mut self, client: u32) -> Result<(), Stop>
         requires nodes { IsNodes self.old }
         requires client { client < length self.old.clients.items }
-        ensures cluster { OnOk result ((f : Facts) → cluster_of f self.new ≡ client_told (cluster_of f self.old) client ((world_of f self.old).to_client client)) }
+        ensures cluster { OnOk result ((f : Facts) → cluster_of f self.new
+            ≡ client_told (cluster_of f self.old) client ((world_of f self.old).to_client client)) }
         ensures nodes { OnOk result (IsNodes self.new) }
         ensures same { OnOk result (HasSameNodes self.old self.new) }
         ensures few { OnOk result ((n : ℕ) → TookFew n self.old → TookFew (n + 1) self.new) }
-        ensures refused { result ≡ Err Stop.Refused → (f : Facts) → IsSomeAnd (first_of ((world_of f self.old).to_client client)) (λ m. client_takes ((world_of f self.old).clients client) (to_client.FromScheduler m) ≡ false) }
+        ensures refused { result ≡ Err Stop.Refused → (f : Facts)
+            → IsSomeAnd (first_of ((world_of f self.old).to_client client)) (λ m. client_takes ((world_of f self.old).clients client) (to_client.FromScheduler m) ≡ false) }
         ensures spent { result ≡ Err Stop.Spent → (n : ℕ) → TookFew n self.old → event_limit ≤ n }
     {
         match pop_to_client(&mut self.to_client, client) {

@@ -96,7 +96,8 @@ impl<B: Drop> Nodes<B> {
         requires nodes { IsNodes self.old }
         requires peer { peer < length self.old.workers.items }
         requires alive { read self.old.alive false peer ≡ true }
-        ensures cluster { OnOk result ((f : Facts) → cluster_of f self.new ≡ served_by (cluster_of f self.old) asker peer ask (parcel_of asker peer ask (world_of f self.old).requests)) }
+        ensures cluster { OnOk result ((f : Facts) → cluster_of f self.new
+            ≡ served_by (cluster_of f self.old) asker peer ask (parcel_of asker peer ask (world_of f self.old).requests)) }
         ensures nodes { OnOk result (IsNodes self.new) }
         ensures same { OnOk result (HasSameNodes self.old self.new) }
         ensures few { OnOk result ((n : ℕ) → TookFew n self.old → TookFew n self.new) }
@@ -128,11 +129,13 @@ impl<B: Drop> Nodes<B> {
     pub fn arrive(&mut self, asker: Asker, peer: u32, ask: u64) -> Result<(), Stop>
         requires nodes { IsNodes self.old }
         requires asker { HasAsker self.old asker }
-        ensures cluster { OnOk result ((f : Facts) → cluster_of f self.new ≡ answer_arrived (cluster_of f self.old) asker peer ask (delivery_of asker peer ask (blocks_in self.old).carried)) }
+        ensures cluster { OnOk result ((f : Facts) → cluster_of f self.new
+            ≡ answer_arrived (cluster_of f self.old) asker peer ask (delivery_of asker peer ask (blocks_in self.old).carried)) }
         ensures nodes { OnOk result (IsNodes self.new) }
         ensures same { OnOk result (HasSameNodes self.old self.new) }
         ensures few { OnOk result ((n : ℕ) → TookFew n self.old → TookFew (n + 1) self.new) }
-        ensures refused { result ≡ Err Stop.Refused → (f : Facts) → IsSomeAnd (parcel_of asker peer ask (world_of f self.old).answers) (λ q. IsRefusedBy (world_of f self.old) asker peer ask q.keys) }
+        ensures refused { result ≡ Err Stop.Refused → (f : Facts)
+            → IsSomeAnd (parcel_of asker peer ask (world_of f self.old).answers) (λ q. IsRefusedBy (world_of f self.old) asker peer ask q.keys) }
         ensures spent { result ≡ Err Stop.Spent → (n : ℕ) → TookFew n self.old → event_limit ≤ n }
     {
         match self.answers.take(asker, peer, ask) {
@@ -163,7 +166,8 @@ impl<B: Drop> Nodes<B> {
     ) -> Result<(), Stop>
         requires nodes { IsNodes self.old }
         requires asker { HasAsker self.old asker }
-        ensures cluster { OnOk result ((f : Facts) → cluster_of f self.new ≡ gathered_turned (cluster_of f self.old) asker peer ask found (among brought.items)) }
+        ensures cluster { OnOk result ((f : Facts) → cluster_of f self.new
+            ≡ gathered_turned (cluster_of f self.old) asker peer ask found (among brought.items)) }
         ensures nodes { OnOk result (IsNodes self.new) }
         ensures same { OnOk result (HasSameNodes self.old self.new) }
         ensures few { OnOk result ((n : ℕ) → TookFew n self.old → TookFew (n + 1) self.new) }

@@ -83,7 +83,8 @@ impl<B: Drop> Nodes<B> {
     pub fn join(&mut self, threads: u32) -> Result<(), AllocError>
         requires nodes { IsNodes self.old }
         requires few { length self.old.workers.items ≤ 1024 }
-        ensures cluster { OnOk result ((f : Facts) → f.setting.shape ≡ self.old.shape → cluster_of f self.new ≡ joined (cluster_of f self.old) (length self.old.workers.items) threads) }
+        ensures cluster { OnOk result ((f : Facts) → f.setting.shape ≡ self.old.shape
+            → cluster_of f self.new ≡ joined (cluster_of f self.old) (length self.old.workers.items) threads) }
         ensures nodes { OnOk result (IsNodes self.new) }
         ensures workers { OnOk result (length self.new.workers.items ≡ length self.old.workers.items + 1) }
         ensures alive { OnOk result (read self.new.alive false (length self.old.workers.items) ≡ true) }

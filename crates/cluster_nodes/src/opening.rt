@@ -67,7 +67,8 @@ impl<B: Drop> Nodes<B> {
     /// Where no memory is left.
     pub fn new(alloc: Global, shape: GraphShape, clients: u32) -> Result<Nodes<B>, AllocError>
         requires { clients ≤ 16 }
-        ensures cluster { IfOk result (λ n. (s : Setting) → s.shape ≡ shape → cluster_of (sched_opening s) n ≡ record { world = opening (record { setting = s; zero = λ k. false }); blocks = no_blocks }) }
+        ensures cluster { IfOk result (λ n. (s : Setting) → s.shape ≡ shape
+            → cluster_of (sched_opening s) n ≡ record { world = opening (record { setting = s; zero = λ k. false }); blocks = no_blocks }) }
         ensures nodes { IfOk result (λ n. IsNodes n) }
         ensures workers { IfOk result (λ n. length n.workers.items ≡ 1) }
         ensures clients { IfOk result (λ n. length n.clients.items ≡ clients + 1) }
@@ -108,7 +109,8 @@ impl<B: Drop> Nodes<B> {
     /// Where no memory is left; what the nodes are then isn't said.
     fn begin(&mut self, count: u32) -> Result<(), AllocError>
         requires { IsEmpty self.old }
-        ensures cluster { OnOk result ((s : Setting) → s.shape ≡ self.old.shape → cluster_of (sched_opening s) self.new ≡ record { world = opening (record { setting = s; zero = λ k. false }); blocks = no_blocks }) }
+        ensures cluster { OnOk result ((s : Setting) → s.shape ≡ self.old.shape
+            → cluster_of (sched_opening s) self.new ≡ record { world = opening (record { setting = s; zero = λ k. false }); blocks = no_blocks }) }
         ensures nodes { OnOk result (IsNodes self.new) }
         ensures workers { OnOk result (length self.new.workers.items ≡ 1) }
         ensures clients { OnOk result (length self.new.clients.items ≡ count) }

@@ -16,7 +16,8 @@ pub fn pop_down(down: &mut Links<Message>, worker: u32) -> Option<Down>
     requires worker { worker < length down.old }
     requires sorted { (i : ℕ) → downs (filter_map as_down (waiting down.old i)) ≡ waiting down.old i }
     ensures first { result ≡ first_of (filter_map as_down (waiting down.old worker)) }
-    ensures rest { (λ i. filter_map as_down (waiting down.new i)) ≡ put (λ i. filter_map as_down (waiting down.old i)) worker (drop 1 (filter_map as_down (waiting down.old worker))) }
+    ensures rest { (λ i. filter_map as_down (waiting down.new i))
+        ≡ put (λ i. filter_map as_down (waiting down.old i)) worker (drop 1 (filter_map as_down (waiting down.old worker))) }
     ensures sorted { (i : ℕ) → downs (filter_map as_down (waiting down.new i)) ≡ waiting down.new i }
     ensures length { length down.new ≡ length down.old }
 {
@@ -28,7 +29,8 @@ pub fn pop_up(up: &mut Links<Message>, worker: u32) -> Option<Up>
     requires worker { worker < length up.old }
     requires sorted { (i : ℕ) → ups (filter_map as_up (waiting up.old i)) ≡ waiting up.old i }
     ensures first { result ≡ first_of (filter_map as_up (waiting up.old worker)) }
-    ensures rest { (λ i. filter_map as_up (waiting up.new i)) ≡ put (λ i. filter_map as_up (waiting up.old i)) worker (drop 1 (filter_map as_up (waiting up.old worker))) }
+    ensures rest { (λ i. filter_map as_up (waiting up.new i))
+        ≡ put (λ i. filter_map as_up (waiting up.old i)) worker (drop 1 (filter_map as_up (waiting up.old worker))) }
     ensures sorted { (i : ℕ) → ups (filter_map as_up (waiting up.new i)) ≡ waiting up.new i }
     ensures length { length up.new ≡ length up.old }
 {
@@ -40,7 +42,8 @@ pub fn pop_to_client(to_client: &mut Links<Message>, client: u32) -> Option<ToCl
     requires client { client < length to_client.old }
     requires sorted { (i : ℕ) → to_clients (filter_map as_to_client (waiting to_client.old i)) ≡ waiting to_client.old i }
     ensures first { result ≡ first_of (filter_map as_to_client (waiting to_client.old client)) }
-    ensures rest { (λ i. filter_map as_to_client (waiting to_client.new i)) ≡ put (λ i. filter_map as_to_client (waiting to_client.old i)) client (drop 1 (filter_map as_to_client (waiting to_client.old client))) }
+    ensures rest { (λ i. filter_map as_to_client (waiting to_client.new i))
+        ≡ put (λ i. filter_map as_to_client (waiting to_client.old i)) client (drop 1 (filter_map as_to_client (waiting to_client.old client))) }
     ensures sorted { (i : ℕ) → to_clients (filter_map as_to_client (waiting to_client.new i)) ≡ waiting to_client.new i }
     ensures length { length to_client.new ≡ length to_client.old }
 {
@@ -52,7 +55,8 @@ pub fn pop_from_client(from_client: &mut Links<Message>, client: u32) -> Option<
     requires client { client < length from_client.old }
     requires sorted { (i : ℕ) → from_clients (filter_map as_from_client (waiting from_client.old i)) ≡ waiting from_client.old i }
     ensures first { result ≡ first_of (filter_map as_from_client (waiting from_client.old client)) }
-    ensures rest { (λ i. filter_map as_from_client (waiting from_client.new i)) ≡ put (λ i. filter_map as_from_client (waiting from_client.old i)) client (drop 1 (filter_map as_from_client (waiting from_client.old client))) }
+    ensures rest { (λ i. filter_map as_from_client (waiting from_client.new i))
+        ≡ put (λ i. filter_map as_from_client (waiting from_client.old i)) client (drop 1 (filter_map as_from_client (waiting from_client.old client))) }
     ensures sorted { (i : ℕ) → from_clients (filter_map as_from_client (waiting from_client.new i)) ≡ waiting from_client.new i }
     ensures length { length from_client.new ≡ length from_client.old }
 {

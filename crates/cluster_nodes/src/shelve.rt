@@ -51,7 +51,8 @@ pub fn shelve<B: Drop, H: Holder>(
     requires node { node < height shelf.old }
     requires inside { (k : ℕ) → width shelf.old ≤ k → H.counted holder.now k ≡ false }
     requires tidy { (k : ℕ) → H.counted holder.now k ≡ false → is_in k lost.now ≡ false → cell shelf.old None node k ≡ None }
-    ensures meaning { cell shelf.new None ≡ put (cell shelf.old None) node (λ k. keeps (H.counted holder.now k) (cell shelf.old None node k) (first_at brought.items k)) }
+    ensures meaning { cell shelf.new None
+        ≡ put (cell shelf.old None) node (λ k. keeps (H.counted holder.now k) (cell shelf.old None node k) (first_at brought.items k)) }
     ensures height { height shelf.new ≡ height shelf.old }
     ensures width { width shelf.new ≡ width shelf.old }
 {
@@ -68,7 +69,9 @@ fn bring<B: Drop, H: Holder>(
 )
     requires node { node < height shelf.old }
     requires inside { (k : ℕ) → width shelf.old ≤ k → H.counted holder.now k ≡ false }
-    ensures meaning { (w k : ℕ) → cell shelf.new None w k ≡ cond (w == node && H.counted holder.now k) (either (cell shelf.old None w k) (first_at brought.items k)) (cell shelf.old None w k) }
+    ensures meaning { (w k : ℕ)
+        → cell shelf.new None w k
+        ≡ cond (w == node && H.counted holder.now k) (either (cell shelf.old None w k) (first_at brought.items k)) (cell shelf.old None w k) }
     ensures height { height shelf.new ≡ height shelf.old }
     ensures width { width shelf.new ≡ width shelf.old }
 {
@@ -87,7 +90,9 @@ fn bring_one<B: Drop, H: Holder>(
 )
     requires node { node < height shelf.old }
     requires inside { (k : ℕ) → width shelf.old ≤ k → H.counted holder.now k ≡ false }
-    ensures meaning { (w k : ℕ) → cell shelf.new None w k ≡ cond ((w == node && H.counted holder.now k) && key == k) (either (cell shelf.old None w k) (Some block)) (cell shelf.old None w k) }
+    ensures meaning { (w k : ℕ)
+        → cell shelf.new None w k
+        ≡ cond ((w == node && H.counted holder.now k) && key == k) (either (cell shelf.old None w k) (Some block)) (cell shelf.old None w k) }
     ensures height { height shelf.new ≡ height shelf.old }
     ensures width { width shelf.new ≡ width shelf.old }
 {
@@ -103,7 +108,9 @@ fn bring_one<B: Drop, H: Holder>(
 /// Takes away what of these keys isn't counted.
 fn keep<B: Drop, H: Holder>(shelf: &mut Shelf<Arc<B>>, node: u32, holder: &H, lost: &[u32])
     requires node { node < height shelf.old }
-    ensures meaning { (w k : ℕ) → cell shelf.new None w k ≡ cond (w == node && is_in k lost.now) (cond (H.counted holder.now k) (cell shelf.old None w k) None) (cell shelf.old None w k) }
+    ensures meaning { (w k : ℕ)
+        → cell shelf.new None w k
+        ≡ cond (w == node && is_in k lost.now) (cond (H.counted holder.now k) (cell shelf.old None w k) None) (cell shelf.old None w k) }
     ensures height { height shelf.new ≡ height shelf.old }
     ensures width { width shelf.new ≡ width shelf.old }
 {

@@ -26,7 +26,8 @@ pub fn next_item<J: JobSpec>(world: &World<J>, plan: &SimPlan, passed: usize) ->
     requires passed { passed ≤ length plan.now.script }
     requires threads { (1 ≤ plan.now.threads) × (plan.now.threads ≤ 16) }
     requires numbers { (world_of world.now).sched.last_worker < 1024 }
-    ensures step { option_map (λ s. (s.event, drop s.passed plan.now.script)) result ≡ scripted plan.now.threads (world_of world.now) (drop passed plan.now.script) }
+    ensures step { option_map (λ s. (s.event, drop s.passed plan.now.script)) result
+        ≡ scripted plan.now.threads (world_of world.now) (drop passed plan.now.script) }
     ensures passed { IsBefore passed result (length plan.now.script) }
 {
     let script = plan.script.as_slice();

@@ -97,7 +97,8 @@ impl<J: JobSpec> World<J> {
         ensures ready { OnOk result (IsReady self.old) }
         ensures possible { OnOk result (enabled (world self.old) e.now ≡ true) }
         ensures world { OnOk result ((met : Bool) × (world self.new ≡ world_after met (world self.old) e.now)) }
-        ensures cluster { OnOk result (J.feed_tells self.old.job self.old.feed → cluster self.new ≡ cluster_step (J.operation self.old.job) (cluster self.old) e.now) }
+        ensures cluster { OnOk result (J.feed_tells self.old.job self.old.feed
+            → cluster self.new ≡ cluster_step (J.operation self.old.job) (cluster self.old) e.now) }
         ensures attempts { OnOk result (AttemptsEnd (world self.old) e.now (world self.new)) }
         ensures goes { OnOk result (self.new.course ≡ self.old.course) }
         ensures events { OnOk result (self.new.events ≡ self.old.events + 1) }

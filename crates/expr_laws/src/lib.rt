@@ -33,6 +33,8 @@ pub fn one_refusal()
 /// What the operation of a node makes of the arrays of the nodes that it names has the node's shape, and at each index of
 /// it the node's element. No memory.
 pub fn elements_by_formula()
-    ensures shape { (inputs : ℕ → List ℕ → ℤ) (nodes : List Node) (n : ℕ) (node : Node) → IsExpression nodes → slice_get nodes n ≡ Some node → (made_of inputs nodes n node).shape ≡ node.shape }
-    ensures element { (inputs : ℕ → List ℕ → ℤ) (nodes : List Node) (n : ℕ) (node : Node) (i : List ℕ) → IsExpression nodes → slice_get nodes n ≡ Some node → IsIn node.shape i → elem inputs nodes n i ≡ (made_of inputs nodes n node).at i }
+    ensures shape { (inputs : ℕ → List ℕ → ℤ) (nodes : List Node) (n : ℕ) (node : Node) → IsExpression nodes → slice_get nodes n ≡ Some node
+        → (made_of inputs nodes n node).shape ≡ node.shape }
+    ensures element { (inputs : ℕ → List ℕ → ℤ) (nodes : List Node) (n : ℕ) (node : Node) (i : List ℕ) → IsExpression nodes → slice_get nodes n ≡ Some node
+        → IsIn node.shape i → elem inputs nodes n i ≡ (made_of inputs nodes n node).at i }
 {}

@@ -28,7 +28,8 @@ fn use_pair(
     requires order { IsFromTo first.now last.now last.now }
     requires left_inside { (i : List ℕ) → IsFromTo first.now last.now i → IsIn (shape_at nodes.now left) (under (shape_at nodes.now left) i) }
     requires right_inside { (i : List ℕ) → IsFromTo first.now last.now i → IsIn (shape_at nodes.now right) (under (shape_at nodes.now right) i) }
-    ensures uses { Widens (IsUsed first.now last.now (λ i k j. IsAt left (under (shape_at nodes.now left) i) k j ⊎ IsAt right (under (shape_at nodes.now right) i) k j)) needs.old needs.new }
+    ensures uses { Widens (IsUsed first.now last.now (λ i k j. IsAt left (under (shape_at nodes.now left) i) k j
+        ⊎ IsAt right (under (shape_at nodes.now right) i) k j)) needs.old needs.new }
     ensures fit { AreFit nodes.now needs.new }
 {
     use_under(needs, nodes, left, first, last);
@@ -52,7 +53,8 @@ fn use_three(
     requires one_inside { (i : List ℕ) → IsFromTo first.now last.now i → IsIn (shape_at nodes.now one) (under (shape_at nodes.now one) i) }
     requires two_inside { (i : List ℕ) → IsFromTo first.now last.now i → IsIn (shape_at nodes.now two) (under (shape_at nodes.now two) i) }
     requires three_inside { (i : List ℕ) → IsFromTo first.now last.now i → IsIn (shape_at nodes.now three) (under (shape_at nodes.now three) i) }
-    ensures uses { Widens (IsUsed first.now last.now (λ i k j. IsAt one (under (shape_at nodes.now one) i) k j ⊎ (IsAt two (under (shape_at nodes.now two) i) k j ⊎ IsAt three (under (shape_at nodes.now three) i) k j))) needs.old needs.new }
+    ensures uses { Widens (IsUsed first.now last.now (λ i k j. IsAt one (under (shape_at nodes.now one) i) k j
+        ⊎ (IsAt two (under (shape_at nodes.now two) i) k j ⊎ IsAt three (under (shape_at nodes.now three) i) k j))) needs.old needs.new }
     ensures fit { AreFit nodes.now needs.new }
 {
     use_under(needs, nodes, one, first, last);
@@ -71,7 +73,8 @@ fn use_folded(
 ) -> Result<(), AllocError>
     requires can { CanAsk nodes.now needs.old of }
     requires order { IsFromTo first.now last.now last.now }
-    requires inside { (i : List ℕ) → IsFromTo first.now last.now i → IsIn (kept_shape 0 (shape_at nodes.now of) (folded_axes axes.now (length (shape_at nodes.now of)))) i }
+    requires inside { (i : List ℕ) → IsFromTo first.now last.now i
+        → IsIn (kept_shape 0 (shape_at nodes.now of) (folded_axes axes.now (length (shape_at nodes.now of)))) i }
     ensures uses { OnOk result (Widens (IsUsed first.now last.now (IsAlong of (shape_at nodes.now of) (folded_axes axes.now (length (shape_at nodes.now of))))) needs.old needs.new) }
     ensures fit { OnOk result (AreFit nodes.now needs.new) }
 {
@@ -94,7 +97,8 @@ fn use_paired(
     requires left { CanAsk nodes.now needs.old left }
     requires right { CanAsk nodes.now needs.old right }
     requires order { IsFromTo first.now last.now last.now }
-    requires inside { (i : List ℕ) → IsFromTo first.now last.now i → IsIn (kept_shape 0 (shape_at nodes.now left) left_axes.now ++ kept_shape 0 (shape_at nodes.now right) right_axes.now) i }
+    requires inside { (i : List ℕ) → IsFromTo first.now last.now i
+        → IsIn (kept_shape 0 (shape_at nodes.now left) left_axes.now ++ kept_shape 0 (shape_at nodes.now right) right_axes.now) i }
     ensures uses { OnOk result (Widens (IsUsed first.now last.now (λ i k j. IsAlong left (shape_at nodes.now left) left_axes.now (take (kept_number (shape_at nodes.now left) left_axes.now) i) k j ⊎ IsAlong right (shape_at nodes.now right) right_axes.now (drop (kept_number (shape_at nodes.now left) left_axes.now) i) k j)) needs.old needs.new) }
     ensures fit { OnOk result (AreFit nodes.now needs.new) }
 {

@@ -68,8 +68,10 @@ impl JobReader {
     /// Takes a token of this kind, with the actions before it; or refuses it: no job that begins with the tokens so far goes on
     /// so. Then all actions that need no further token are done, and what is left is as before.
     pub fn take(&mut self, kind: Kind) -> Result<Reply, AllocError>
-        ensures taken { result ≡ Ok Taken → (past : List Event) → IsReading past self.old.left → IsReading (past ++ (did_all self.new.actions ++ took (kind_number kind) ∷ [])) self.new.left }
-        ensures refused { result ≡ Ok Refused → (past : List Event) → IsReading past self.old.left → AreDue past self.new.actions × RefusesNext past (Some (kind_number kind)) }
+        ensures taken { result ≡ Ok Taken → (past : List Event) → IsReading past self.old.left
+            → IsReading (past ++ (did_all self.new.actions ++ took (kind_number kind) ∷ [])) self.new.left }
+        ensures refused { result ≡ Ok Refused → (past : List Event) → IsReading past self.old.left
+            → AreDue past self.new.actions × RefusesNext past (Some (kind_number kind)) }
         ensures kept { result ≢ Ok Taken → self.new.left ≡ self.old.left }
     {
         self.reader.step(kind.number())

@@ -41,7 +41,8 @@ pub fn jobs_are_not_refused()
 /// A text has one refusal at most that has its cause, with one line, one column and one kind, but for want of memory. No
 /// memory.
 pub fn one_refusal_of_a_text()
-    ensures { (text : List ℕ) (one other : JobError) → IsRefused text one → IsRefused text other → one.kind ≢ OutOfMemory → other.kind ≢ OutOfMemory → one ≡ other }
+    ensures { (text : List ℕ) (one other : JobError) → IsRefused text one → IsRefused text other → one.kind ≢ OutOfMemory → other.kind ≢ OutOfMemory
+        → one ≡ other }
 {
     fitting_excludes_refusal();
     one_refusal();

@@ -83,7 +83,8 @@ fn save_at<F: OutFile>(
     ensures group { OnOk result (IsGroup (plan_of job.now) (waiting_of group.new)) }
     ensures held { OnOk result ((named : Named) (before after : ℕ → List Box) → AddsBox (plan_of job.now) place (region layout.now number) before after
         → HoldsBox (array_at (plan_of job.now) named place) (region layout.now number) (arc_value block.now)
-        → FilesHeld (plan_of job.now) named before (waiting_of group.old) files.old → FilesHeld (plan_of job.now) named after (waiting_of group.new) files.new) }
+        → FilesHeld (plan_of job.now) named before (waiting_of group.old) files.old
+        → FilesHeld (plan_of job.now) named after (waiting_of group.new) files.new) }
     ensures right { OnErr result ((named : Named) (boxes : ℕ → List Box)
         → HoldsBox (array_at (plan_of job.now) named place) (region layout.now number) (arc_value block.now)
         → FilesHeld (plan_of job.now) named boxes (waiting_of group.old) files.old → FilesRight (plan_of job.now) named files.new) }
@@ -116,7 +117,8 @@ fn save_named<F: OutFile>(
     ensures group { OnOk result (IsGroup (plan_of job.now) (waiting_of group.new)) }
     ensures held { OnOk result ((named : Named) (before after : ℕ → List Box) → AddsNamed (plan_of job.now) (Some (node, number)) before after
         → HoldsNamed (plan_of job.now) named (Some (node, number)) (arc_value block.now)
-        → FilesHeld (plan_of job.now) named before (waiting_of group.old) files.old → FilesHeld (plan_of job.now) named after (waiting_of group.new) files.new) }
+        → FilesHeld (plan_of job.now) named before (waiting_of group.old) files.old
+        → FilesHeld (plan_of job.now) named after (waiting_of group.new) files.new) }
     ensures right { OnErr result ((named : Named) (boxes : ℕ → List Box)
         → HoldsNamed (plan_of job.now) named (Some (node, number)) (arc_value block.now)
         → FilesHeld (plan_of job.now) named boxes (waiting_of group.old) files.old → FilesRight (plan_of job.now) named files.new) }
@@ -160,7 +162,8 @@ fn save_block<F: OutFile>(
     ensures group { OnOk result (IsGroup (plan_of job.now) (waiting_of group.new)) }
     ensures held { OnOk result ((named : Named) (before after : ℕ → List Box) → AddsNamed (plan_of job.now) name before after
         → HoldsNamed (plan_of job.now) named name (arc_value block.now)
-        → FilesHeld (plan_of job.now) named before (waiting_of group.old) files.old → FilesHeld (plan_of job.now) named after (waiting_of group.new) files.new) }
+        → FilesHeld (plan_of job.now) named before (waiting_of group.old) files.old
+        → FilesHeld (plan_of job.now) named after (waiting_of group.new) files.new) }
     ensures right { OnErr result ((named : Named) (boxes : ℕ → List Box) → HoldsNamed (plan_of job.now) named name (arc_value block.now)
         → FilesHeld (plan_of job.now) named boxes (waiting_of group.old) files.old → FilesRight (plan_of job.now) named files.new) }
     ensures kept { OnOk result ((k : ℕ) → k < length files.old → (saving_at files.new k).faults ≡ (saving_at files.old k).faults) }

@@ -43,8 +43,11 @@ fn nodes_there(saves: &[Save], count: usize) -> bool
 // Whether none of the saves before this place has its name.
 fn is_new(saves: &[Save], place: usize) -> bool
     requires { place < length saves.now }
-    ensures apart { result ≡ true → (j : ℕ) → j < place → bytes_eq (name_at (map (λ s. s.file) (map saved_of saves.now)) place) (name_at (map (λ s. s.file) (map saved_of saves.now)) j) ≡ false }
-    ensures same { result ≡ false → ((j : ℕ) → j < place → bytes_eq (name_at (map (λ s. s.file) (map saved_of saves.now)) place) (name_at (map (λ s. s.file) (map saved_of saves.now)) j) ≡ false) → ⊥ }
+    ensures apart { result ≡ true → (j : ℕ) → j < place
+        → bytes_eq (name_at (map (λ s. s.file) (map saved_of saves.now)) place) (name_at (map (λ s. s.file) (map saved_of saves.now)) j) ≡ false }
+    ensures same { result ≡ false
+        → ((j : ℕ) → j < place
+        → bytes_eq (name_at (map (λ s. s.file) (map saved_of saves.now)) place) (name_at (map (λ s. s.file) (map saved_of saves.now)) j) ≡ false) → ⊥ }
 {
     let name = saves[place].file.as_str();
     for k in 0..place {

@@ -226,7 +226,8 @@ pub fn hold_block<F: OutFile>(
     ensures group { OnOk result (IsGroup (plan_of job.now) (waiting_of group.new)) }
     ensures held { OnOk result ((named : Named) (before after : ℕ → List Box) → AddsBox (plan_of job.now) place region before after
         → HoldsBox (array_at (plan_of job.now) named place) region (arc_value block.now)
-        → FilesHeld (plan_of job.now) named before (waiting_of group.old) files.old → FilesHeld (plan_of job.now) named after (waiting_of group.new) files.new) }
+        → FilesHeld (plan_of job.now) named before (waiting_of group.old) files.old
+        → FilesHeld (plan_of job.now) named after (waiting_of group.new) files.new) }
     ensures right { OnErr result ((named : Named) (boxes : ℕ → List Box) → HoldsBox (array_at (plan_of job.now) named place) region (arc_value block.now)
         → FilesHeld (plan_of job.now) named boxes (waiting_of group.old) files.old → FilesRight (plan_of job.now) named files.new) }
     ensures kept { OnOk result ((k : ℕ) → k < length files.old → (saving_at files.new k).faults ≡ (saving_at files.old k).faults) }

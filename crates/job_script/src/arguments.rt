@@ -129,7 +129,12 @@ impl Arguments {
     }
 
     fn add_range(&mut self) -> Result<(), AllocError>
-        ensures { OnOk result (self.new ≡ record self.old { bounds = self.old.bounds ++ self.old.int ∷ []; parts = self.old.parts ++ range_of (self.old.bounds ++ self.old.int ∷ []) ∷ [] }) }
+        ensures { OnOk result (self.new
+            ≡ record self.old {
+              bounds = self.old.bounds ++ self.old.int ∷ [];
+              parts = self.old.parts ++ range_of (self.old.bounds ++ self.old.int ∷ [])
+                  ∷ [];
+            }) }
     {
         self.bounds.push(self.int)?;
         let part = range(self.bounds.as_slice());

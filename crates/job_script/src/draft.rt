@@ -316,7 +316,8 @@ impl Draft {
 
     fn begin(&mut self, token: Token) -> Result<(), Fault>
         ensures ok { OnOk result ((with_scoped (begun token.start self.old.scoped) (with_mark token self.old)) ≡ Ok self.new) }
-        ensures err { IfErr result (λ e. RefusedAs e (with_scoped (begun token.start self.old.scoped) (with_mark token self.old)) (self.new.asked ≡ self.old.asked)) }
+        ensures err { IfErr result (λ e. RefusedAs e (with_scoped (begun token.start self.old.scoped) (with_mark token self.old)) (self.new.asked
+            ≡ self.old.asked)) }
     {
         self.scope.begin(token.start)?;
         self.operands.mark(token)?;

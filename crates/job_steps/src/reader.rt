@@ -62,8 +62,11 @@ fn take_token(
     last: Token,
     token: Token,
 ) -> Result<bool, AllocError>
-    ensures taken { result ≡ Ok true → (text : List ℕ) (at depth_now : ℕ) → next_at text at (nat_lt 0 depth_now) ≡ NextVariants.Token token → IsPast text at depth_now last steps.old.items reader.old.left → IsPast text token.end (opened depth_now token.kind) token steps.new.items reader.new.left }
-    ensures refused { result ≡ Ok false → (text : List ℕ) (at depth_now : ℕ) → next_at text at (nat_lt 0 depth_now) ≡ NextVariants.Token token → IsPast text at depth_now last steps.old.items reader.old.left → IsRead text (record { steps = steps.new.items; ending = Unexpected token }) }
+    ensures taken { result ≡ Ok true → (text : List ℕ) (at depth_now : ℕ) → next_at text at (nat_lt 0 depth_now) ≡ NextVariants.Token token
+        → IsPast text at depth_now last steps.old.items reader.old.left
+        → IsPast text token.end (opened depth_now token.kind) token steps.new.items reader.new.left }
+    ensures refused { result ≡ Ok false → (text : List ℕ) (at depth_now : ℕ) → next_at text at (nat_lt 0 depth_now) ≡ NextVariants.Token token
+        → IsPast text at depth_now last steps.old.items reader.old.left → IsRead text (record { steps = steps.new.items; ending = Unexpected token }) }
 {
     let reply = reader.take(token.kind)?;
     add_steps(steps, reader.actions(), last)?;
@@ -80,7 +83,8 @@ fn take_end(
     last: Token,
     end: usize,
 ) -> Result<Ending, AllocError>
-    ensures { IfOk result (λ e. (text : List ℕ) (at depth_now : ℕ) → end ≡ length text → next_at text at (nat_lt 0 depth_now) ≡ NextVariants.End end → IsPast text at depth_now last steps.old.items reader.old.left → IsRead text (record { steps = steps.new.items; ending = e })) }
+    ensures { IfOk result (λ e. (text : List ℕ) (at depth_now : ℕ) → end ≡ length text → next_at text at (nat_lt 0 depth_now) ≡ NextVariants.End end
+        → IsPast text at depth_now last steps.old.items reader.old.left → IsRead text (record { steps = steps.new.items; ending = e })) }
 {
     let reply = reader.end()?;
     add_steps(steps, reader.actions(), last)?;
@@ -97,7 +101,8 @@ fn stop_at(
     last: Token,
     byte: usize,
 ) -> Result<Ending, AllocError>
-    ensures { IfOk result (λ e. (text : List ℕ) (at depth_now : ℕ) → next_at text at (nat_lt 0 depth_now) ≡ NextVariants.Refused byte → IsPast text at depth_now last steps.old.items reader.old.left → IsRead text (record { steps = steps.new.items; ending = e })) }
+    ensures { IfOk result (λ e. (text : List ℕ) (at depth_now : ℕ) → next_at text at (nat_lt 0 depth_now) ≡ NextVariants.Refused byte
+        → IsPast text at depth_now last steps.old.items reader.old.left → IsRead text (record { steps = steps.new.items; ending = e })) }
 {
     reader.finish()?;
     add_steps(steps, reader.actions(), last)?;

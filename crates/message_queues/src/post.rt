@@ -81,7 +81,8 @@ pub fn post_client<B: Drop>(
     requests: &mut Transits<B>,
 ) -> Result<(), AllocError>
     requires { client < length from_client.old }
-    ensures from_client { OnOk result (waiting from_client.new ≡ put (waiting from_client.old) client (waiting from_client.old client ++ from_clients (client_sends out))) }
+    ensures from_client { OnOk result (waiting from_client.new
+        ≡ put (waiting from_client.old) client (waiting from_client.old client ++ from_clients (client_sends out))) }
     ensures requests { OnOk result (parcels requests.new ≡ client_requested (Client client) (parcels requests.old) out) }
     ensures kind { OnOk result (AreRequests requests.old → AreRequests requests.new) }
     ensures length { length from_client.new ≡ length from_client.old }

@@ -120,7 +120,8 @@ fn all_told(
     client: History,
     left: Result<Vec<Option<Why>>, AllocError>,
 ) -> Option<Told>
-    ensures { IfSome result (λ t. (t.histories.scheduler ≡ scheduler) × (workers ≡ Some t.histories.workers) × (t.histories.client ≡ client) × (left ≡ Ok t.left)) }
+    ensures { IfSome result (λ t. (t.histories.scheduler ≡ scheduler) × (workers ≡ Some t.histories.workers) × (t.histories.client ≡ client)
+        × (left ≡ Ok t.left)) }
 {
     match (left, workers) {
         (Ok(left), Some(workers)) => Some(Told {

@@ -158,7 +158,8 @@ fn failure_of<B: Drop, L: Label<Block = B>>(
     blame: u32,
 ) -> Option<Failure>
     requires allowed { L.facts.allowed ≡ plan.now.allowed }
-    ensures { IfSome result (λ x. (wanted : List ℕ) → HasBlame L.facts wanted blame → IsFailure L.facts plan.now wanted (facts scheduler.now.history.book.core.core) x) }
+    ensures { IfSome result (λ x. (wanted : List ℕ) → HasBlame L.facts wanted blame
+        → IsFailure L.facts plan.now wanted (facts scheduler.now.history.book.core.core) x) }
 {
     match plan.allowed {
         None => Some(Failure::Zero { key: blame }),

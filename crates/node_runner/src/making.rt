@@ -63,7 +63,8 @@ pub fn make_rows<J: JobSpec, K: RunName<J>, S: BlockStore<J::Block, RunLabel<J, 
     ensures parts { (result.0.scheduler.parts ≡ parts) × (result.0.workers.parts ≡ parts) × (result.0.clients.parts ≡ parts) }
     ensures scheduler { result.1 ≡ true → AreMade (λ k s. IsFirstScheduler graph.now plan.now s.history.book.kept) 1
         (map (λ p. berth_of p.seat) result.0.scheduler.passes.items) }
-    ensures workers { result.1 ≡ true → AreMade (λ k s. IsFirstWorker graph.now plan.now.threads (k + 1) s.history.book.kept.id (worker_facts s.history.book.kept.core))
+    ensures workers { result.1 ≡ true
+        → AreMade (λ k s. IsFirstWorker graph.now plan.now.threads (k + 1) s.history.book.kept.id (worker_facts s.history.book.kept.core))
         (numbers plan.now) (map (λ p. berth_of p.seat) result.0.workers.passes.items) }
     ensures client { result.1 ≡ true → AreMade (λ k s. IsFirstClient graph.now s.book.kept.id (client_facts s.book.kept.core)) 1
         (map (λ p. berth_of p.seat) result.0.clients.passes.items) }
@@ -100,7 +101,8 @@ fn fill<B: Drop, L: Label<Block = B>, F: Drop, S: BlockStore<B, L>>(
     ensures client_parts { result.0.clients.parts ≡ rows.clients.parts }
     ensures scheduler { result.1 ≡ true → AreMade (λ k s. IsFirstScheduler graph.now plan.now s.history.book.kept) 1
         (map (λ p. berth_of p.seat) result.0.scheduler.passes.items) }
-    ensures workers { result.1 ≡ true → AreMade (λ k s. IsFirstWorker graph.now plan.now.threads (k + 1) s.history.book.kept.id (worker_facts s.history.book.kept.core))
+    ensures workers { result.1 ≡ true
+        → AreMade (λ k s. IsFirstWorker graph.now plan.now.threads (k + 1) s.history.book.kept.id (worker_facts s.history.book.kept.core))
         (vec_len ports.workers) (map (λ p. berth_of p.seat) result.0.workers.passes.items) }
     ensures client { result.1 ≡ true → AreMade (λ k s. IsFirstClient graph.now s.book.kept.id (client_facts s.book.kept.core)) 1
         (map (λ p. berth_of p.seat) result.0.clients.passes.items) }
@@ -180,7 +182,8 @@ fn add_scheduler<B: Drop, L: Label<Block = B>>(
     requires saturation { (1 ≤ plan.now.saturation) × (plan.now.saturation ≤ 1000) }
     requires empty { row.passes.items ≡ [] }
     ensures parts { result.0.parts ≡ row.parts }
-    ensures made { result.1 ≡ true → AreMade (λ k s. IsFirstScheduler graph.now plan.now s.history.book.kept) 1 (map (λ p. berth_of p.seat) result.0.passes.items) }
+    ensures made { result.1 ≡ true
+        → AreMade (λ k s. IsFirstScheduler graph.now plan.now s.history.book.kept) 1 (map (λ p. berth_of p.seat) result.0.passes.items) }
 {
     let made = make_scheduler(alloc, graph, plan, workers, client, sent);
     add_made(alloc, row, made)

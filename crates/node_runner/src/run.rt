@@ -349,7 +349,8 @@ where
         → (k : ℕ) (w : _) → k < vec_len result.workers
         → IsWorkersBook L.facts graph plan.now.threads (k + 1) (λ c. c.id) (λ c. worker_facts c.core) (slice_index_or result.workers.items k w).history.book }
     ensures clients { (graph : Shape) → AreMade (λ k s. IsFirstClient graph s.book.kept.id (client_facts s.book.kept.core)) 1
-        (map (λ p. berth_of p.seat) rows.clients.passes.items) → All (λ c. IsClientsBook L.facts graph (λ c. c.id) (λ c. client_facts c.core) c.book) result.clients.items }
+        (map (λ p. berth_of p.seat) rows.clients.passes.items)
+        → All (λ c. IsClientsBook L.facts graph (λ c. c.id) (λ c. client_facts c.core) c.book) result.clients.items }
     ensures waited { T.leads waiter.old waiter.new }
 {
     let manner = Manner {
@@ -383,7 +384,8 @@ fn end_rows<B: Drop, L: Label<Block = B>, F: Drop, S: BlockStore<B, L>, Z: Sink<
     requires clients { All (λ c. IsClientsBook L.facts graph.now (λ c. c.id) (λ c. client_facts c.core) c.book) closed.clients.items }
     ensures had { IfOk result.0.result (λ _. All (λ k. Z.had sink.new k ≡ true) wanted.now) }
     ensures leads { Z.leads sink.old sink.new }
-    ensures ended { IfSome result.0.histories (λ h. (last : LastFacts) × HasRun L.facts graph.now plan.now wanted.now ⊥ last result.0.result result.0.left.items h
+    ensures ended { IfSome result.0.histories (λ h. (last : LastFacts)
+        × HasRun L.facts graph.now plan.now wanted.now ⊥ last result.0.result result.0.left.items h
         × IsDoubt L.facts plan.now wanted.now last.scheduler result.0.left.items result.1) }
     ensures none { result.0.histories ≡ None → HasNotRun result.0.result result.0.left.items }
 {
@@ -433,7 +435,8 @@ fn without_doubt<J: JobSpec, K: RunName<J>, S: Drop>(
     ensures same { (result.histories ≡ ends.histories) × (result.left ≡ ends.left) × (result.feeds ≡ ends.feeds) }
     ensures none { ends.histories ≡ None → result.result ≡ ends.result }
     ensures changed { (result.result ≡ ends.result)
-        ⊎ ((s : AnyStatus) × (result.result ≡ Err s) × IsDecided plan.now ((short ≡ true) ⊎ ((f : _) × Contains ends.feeds.items f × (0 < J.fault_count f))) doubt s) }
+        ⊎ ((s : AnyStatus) × (result.result ≡ Err s)
+        × IsDecided plan.now ((short ≡ true) ⊎ ((f : _) × Contains ends.feeds.items f × (0 < J.fault_count f))) doubt s) }
 {
     let failed = short || has_failed(job, ends.feeds.as_slice());
     decide(plan, failed, doubt, ends)

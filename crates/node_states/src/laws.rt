@@ -22,7 +22,8 @@ pub fn workers_err_after_zero_divisors<L: Label>()
 /// failed, and faulty where losses aren't bounded.
 #[tactic(auto, using(crate::proofs::SchedLaw::letters_fit))]
 pub fn blames_are_faulty<L: Label>()
-    ensures { (f : Facts) (e : SchedEvent) → IsShape f.setting.shape → SchedEventFits L.facts e → SchedFits L.facts f → LettersFit L.facts (sched_step f e).clients }
+    ensures { (f : Facts) (e : SchedEvent) → IsShape f.setting.shape → SchedEventFits L.facts e → SchedFits L.facts f
+        → LettersFit L.facts (sched_step f e).clients }
 {}
 
 /// Where a client is told failures with blames that fit, all that it knows have such.

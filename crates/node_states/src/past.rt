@@ -92,7 +92,8 @@ impl<L: Label> SchedulerHistory<L> {
     /// delivered.
     #[tactic(auto, using(crate::proofs::JoinLemmas::join_first))]
     pub fn in_time(&self)
-        ensures in_time { self.now.book.cut ≡ false → AreInTime self.now.book.core.plan (start_of (facts self.now.book.core.core).setting) self.now.book.entries }
+        ensures in_time { self.now.book.cut ≡ false
+            → AreInTime self.now.book.core.plan (start_of (facts self.now.book.core.core).setting) self.now.book.entries }
         ensures joins { self.now.book.cut ≡ false → JoinFirst self.now.book.core.plan self.now.book.entries }
     {
         let _gone = self.gone.as_slice();

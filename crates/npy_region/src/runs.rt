@@ -90,7 +90,8 @@ fn unit_run(
     requires small { unit ≤ 2 ^ 31 }
     ensures walk { walk.new ≡ walk.old }
     ensures targets { targets.new ≡ targets.old }
-    ensures run { result ≡ record { offset = number_at head.now (spot walk.old element); length = head.now.width * unit; place = target targets.old.by_column targets.old.lengths element } }
+    ensures run { result
+        ≡ record { offset = number_at head.now (spot walk.old element); length = head.now.width * unit; place = target targets.old.by_column targets.old.lengths element } }
     ensures offset { result.offset ≤ 2 ^ 35 }
     ensures place { result.place ≤ 2 ^ 35 }
 {

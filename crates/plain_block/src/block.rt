@@ -33,7 +33,8 @@ fn read_needed<S: Store>(
     ensures later { S.count inputs.old ≤ S.count inputs.new }
     ensures kept { OnOk result (S.count inputs.new ≡ S.count inputs.old) }
     ensures blocks { IfOk result (λ v. HaveBlocks expr.now (node + 1) v.items) }
-    ensures enough { IfOk result (λ v. (outcome : PlainOutcome) → AreTold (S.files inputs.old) (inputs_before expr.now (node + 1)) → IsPlain (held_in v.items) expr.now node region.now outcome → IsPlain (elements_in (S.files inputs.old) heads.now) expr.now node region.now outcome) }
+    ensures enough { IfOk result (λ v. (outcome : PlainOutcome) → AreTold (S.files inputs.old) (inputs_before expr.now (node + 1))
+        → IsPlain (held_in v.items) expr.now node region.now outcome → IsPlain (elements_in (S.files inputs.old) heads.now) expr.now node region.now outcome) }
     ensures whole { OnOk result (HaveNeeded expr.now node region.now (S.files inputs.old) heads.now) }
     ensures refused { IfErr result (RefusesFiles expr.now node region.now (S.files inputs.old) heads.now) }
     ensures fault { IsErrOf result NpyError.ReadFault → Rose (S.count inputs.old) (S.count inputs.new) }
@@ -63,7 +64,8 @@ pub fn plain_block<S: Store>(
     ensures same { S.files inputs.new ≡ S.files inputs.old }
     ensures later { S.count inputs.old ≤ S.count inputs.new }
     ensures kept { OnOk result (S.count inputs.new ≡ S.count inputs.old) }
-    ensures values { IfOk result (λ outcome. AreTold (S.files inputs.old) (inputs_before expr.now (node + 1)) → IsPlain (elements_in (S.files inputs.old) heads.now) expr.now node region.now outcome) }
+    ensures values { IfOk result (λ outcome. AreTold (S.files inputs.old) (inputs_before expr.now (node + 1))
+        → IsPlain (elements_in (S.files inputs.old) heads.now) expr.now node region.now outcome) }
     ensures whole { OnOk result (HaveNeeded expr.now node region.now (S.files inputs.old) heads.now) }
     ensures refused { IfErr result (RefusesFiles expr.now node region.now (S.files inputs.old) heads.now) }
     ensures fault { IsErrOf result NpyError.ReadFault → Rose (S.count inputs.old) (S.count inputs.new) }

@@ -63,7 +63,8 @@ fn end_well(table: &mut TaskTable, worker: u32, key: u32)
     requires key { key < keys (facts table.old) }
     requires room { (facts table.old).counter < 2 ^ 62 }
     requires finishes { (facts table.old).finishes < 2 ^ 62 }
-    ensures facts { facts table.new ≡ record (facts table.old) { on = put (facts table.old).on key None; steal = put (facts table.old).steal key None; has = put_pair (facts table.old).has worker key (Some (facts table.old).counter); counter = (facts table.old).counter + 1; finishes = (facts table.old).finishes + 1 } }
+    ensures facts { facts table.new
+        ≡ record (facts table.old) { on = put (facts table.old).on key None; steal = put (facts table.old).steal key None; has = put_pair (facts table.old).has worker key (Some (facts table.old).counter); counter = (facts table.old).counter + 1; finishes = (facts table.old).finishes + 1 } }
     ensures follows { Follows table.old table.new }
 {
     make(table, Change::Unassign { key });
@@ -87,7 +88,8 @@ pub fn fail(table: &mut TaskTable, worker: u32, key: u32, attempt: u64)
 /// The attempt of the key is over, and the key has an error of its own.
 fn end_badly(table: &mut TaskTable, key: u32)
     requires { key < keys (facts table.old) }
-    ensures facts { facts table.new ≡ record (facts table.old) { on = put (facts table.old).on key None; steal = put (facts table.old).steal key None; bad = put (facts table.old).bad key true } }
+    ensures facts { facts table.new
+        ≡ record (facts table.old) { on = put (facts table.old).on key None; steal = put (facts table.old).steal key None; bad = put (facts table.old).bad key true } }
     ensures follows { Follows table.old table.new }
 {
     make(table, Change::Unassign { key });

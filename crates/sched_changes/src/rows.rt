@@ -114,7 +114,8 @@ pub fn hear_client(
     requires keys { list_all (λ k. nat_lt k (keys (facts table.old))) (client_keys message.now) ≡ true }
     requires freed { freed.old ≡ [] }
     ensures is_answer { IfOk result (λ x. IsAnswer (facts table.old) (facts table.new) x.answer) }
-    ensures change { IfOk result (λ x. changed_by (facts table.old) (facts table.new) freed.new x (asked_by message.now) ≡ change_client (facts table.old) client message.now) }
+    ensures change { IfOk result (λ x. changed_by (facts table.old) (facts table.new) freed.new x (asked_by message.now)
+        ≡ change_client (facts table.old) client message.now) }
     ensures asked { AreTouched table.new (wanted_list message.now) }
     ensures follows { Follows table.old table.new }
 {

@@ -59,7 +59,8 @@ impl FactStore {
         allowed: Option<u32>,
     ) -> Result<FactStore, AllocError>
         requires { clients ≤ 16 }
-        ensures facts { IfOk result (λ store. facts_of store ≡ sched_opening (record { shape = shape; clients = clients; saturation = saturation; allowed = allowed })) }
+        ensures facts { IfOk result (λ store. facts_of store
+            ≡ sched_opening (record { shape = shape; clients = clients; saturation = saturation; allowed = allowed })) }
         ensures room { IfOk result (λ store. store.room ≡ 0) }
     {
         let wide = shape.keys();

@@ -113,7 +113,8 @@ pub fn add_sums(
 ) -> Result<(), AllocError>
     ensures same { (read first.new 0 ≡ read first.old 0) × (read second.new 0 ≡ read second.old 0) × (read third.new 0 ≡ read third.old 0) }
     ensures kept { (length first.old ≤ length first.new) × (length second.old ≤ length second.new) × (length third.old ≤ length third.new) }
-    ensures more { OnOk result ((length first.new ≡ length first.old + 1) × (length second.new ≡ length second.old + 1) × (length third.new ≡ length third.old + 1)) }
+    ensures more { OnOk result ((length first.new ≡ length first.old + 1) × (length second.new ≡ length second.old + 1)
+        × (length third.new ≡ length third.old + 1)) }
 {
     add_sum(first)?;
     add_sum(second)?;

@@ -56,7 +56,8 @@ impl FactTable {
     ) -> Result<FactTable, AllocError>
         requires clients { clients ≤ 16 }
         requires saturation { (1 ≤ saturation) × (saturation ≤ 1000) }
-        ensures { IfOk result (λ table. facts_of table ≡ sched_opening (record { shape = shape; clients = clients; saturation = saturation; allowed = allowed })) }
+        ensures { IfOk result (λ table. facts_of table
+            ≡ sched_opening (record { shape = shape; clients = clients; saturation = saturation; allowed = allowed })) }
     {
         let count = shape.keys() as usize;
         shape.sound();
@@ -219,7 +220,8 @@ impl FactTable {
         requires worker { connected (facts_of self.old) worker ≡ true }
         requires key { key < keys (facts_of self.old) }
         requires room { (facts_of self.old).counter < 2 ^ 62 }
-        ensures { facts_of self.new ≡ record (facts_of self.old) { has = put_pair (facts_of self.old).has worker key (Some (facts_of self.old).counter); counter = (facts_of self.old).counter + 1 } }
+        ensures { facts_of self.new
+            ≡ record (facts_of self.old) { has = put_pair (facts_of self.old).has worker key (Some (facts_of self.old).counter); counter = (facts_of self.old).counter + 1 } }
     {
         let copy = self.next_number();
         self.set_copy(worker, key, Some(copy));
@@ -284,7 +286,8 @@ impl FactTable {
         requires key { key < keys (facts_of self.old) }
         requires worker { connected (facts_of self.old) worker ≡ true }
         requires room { (facts_of self.old).counter < 2 ^ 62 }
-        ensures { facts_of self.new ≡ record (facts_of self.old) { on = put (facts_of self.old).on key (Some (worker, (facts_of self.old).counter)); steal = put (facts_of self.old).steal key None; counter = (facts_of self.old).counter + 1 } }
+        ensures { facts_of self.new
+            ≡ record (facts_of self.old) { on = put (facts_of self.old).on key (Some (worker, (facts_of self.old).counter)); steal = put (facts_of self.old).steal key None; counter = (facts_of self.old).counter + 1 } }
     {
         let attempt = self.next_number();
         self.set_place(key, Some((worker, attempt)));
@@ -342,7 +345,8 @@ impl FactTable {
     /// The key has no error of its own and no losses.
     pub fn forgive(&mut self, key: u32)
         requires { key < keys (facts_of self.old) }
-        ensures { facts_of self.new ≡ record (facts_of self.old) { bad = put (facts_of self.old).bad key false; losses = put (facts_of self.old).losses key 0 } }
+        ensures { facts_of self.new
+            ≡ record (facts_of self.old) { bad = put (facts_of self.old).bad key false; losses = put (facts_of self.old).losses key 0 } }
     {
         self.store.set_bad(key, false);
         self.store.set_losses(key, 0);

@@ -34,7 +34,8 @@ pub fn tell_clients(
     out: &mut Sequence<(u32, ToClient)>,
 ) -> Result<(), AllocError>
     requires { (k : ℕ) → has asked.now k ≡ true → has table.now.touched k ≡ true }
-    ensures { OnOk result (let mail = client_mail (facts table.now) (was_held table.now asked.now) (was_erred table.now asked.now) in out.new ≡ out.old ++ (mail ++ reply_of (facts table.now) mail reply)) }
+    ensures { OnOk result (let mail = client_mail (facts table.now) (was_held table.now asked.now) (was_erred table.now asked.now)
+        in out.new ≡ out.old ++ (mail ++ reply_of (facts table.now) mail reply)) }
 {
     let news = all_news(alloc, table, asked)?;
     tell_both(alloc, table.table(), news.as_slice(), reply, out)
@@ -64,7 +65,8 @@ fn tell_all(
     out: &mut Sequence<(u32, ToClient)>,
 ) -> Result<(), AllocError>
     requires { All (λ n. n.0 < keys (facts_of table.now)) news.now }
-    ensures { OnOk result (out.new ≡ out.old ++ flat_map (λ c. filter_map (heard (facts_of table.now) c) news.now) (from_one (facts_of table.now).setting.clients)) }
+    ensures { OnOk result (out.new
+        ≡ out.old ++ flat_map (λ c. filter_map (heard (facts_of table.now) c) news.now) (from_one (facts_of table.now).setting.clients)) }
 {
     for before in 0..table.clients() {
         tell_client(alloc, table, news, 1 + before, out)?;

@@ -39,7 +39,8 @@ fn empty_lists(alloc: Global, count: usize) -> Result<Vec<KeyList>, AllocError>
 
 /// Adds the key of one pair to its worker's list, if there is one.
 fn add_pair(lists: &mut Vec<KeyList>, pair: (u32, u32)) -> Result<(), AllocError>
-    ensures keys { OnOk result ((w k : ℕ) → w < length lists.old.items → lost_by lists.new.items w k ≡ (lost_by lists.old.items w k || (pair.0 == w && pair.1 == k))) }
+    ensures keys { OnOk result ((w k : ℕ) → w < length lists.old.items
+        → lost_by lists.new.items w k ≡ (lost_by lists.old.items w k || (pair.0 == w && pair.1 == k))) }
     ensures length { OnOk result (length lists.new.items ≡ length lists.old.items) }
 {
     let (worker, key) = pair;

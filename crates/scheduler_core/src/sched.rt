@@ -60,7 +60,8 @@ impl Sched {
     ) -> Result<Sched, AllocError>
         requires clients { clients ≤ 16 }
         requires saturation { (1 ≤ saturation) × (saturation ≤ 1000) }
-        ensures facts { IfOk result (λ sched. facts sched ≡ sched_opening (record { shape = shape; clients = clients; saturation = saturation; allowed = allowed })) }
+        ensures facts { IfOk result (λ sched. facts sched
+            ≡ sched_opening (record { shape = shape; clients = clients; saturation = saturation; allowed = allowed })) }
         ensures runs { IfOk result (λ sched. sched.stopped ≡ false) }
         ensures taken { IfOk result (λ sched. sched.taken ≡ 0) }
     {
@@ -96,7 +97,8 @@ impl Sched {
         ensures possible { OnOk result ((self.old.stopped ≡ false) × (self.old.taken < event_limit) × (sched_takes (facts self.old) event ≡ true)) }
 
         // Refused and spent.
-        ensures refused { (result ≡ Err Stop.Refused) ↔ ((self.old.stopped ≡ false) × (self.old.taken < event_limit) × (sched_takes (facts self.old) event ≡ false)) }
+        ensures refused { (result ≡ Err Stop.Refused)
+            ↔ ((self.old.stopped ≡ false) × (self.old.taken < event_limit) × (sched_takes (facts self.old) event ≡ false)) }
         ensures refused_core { result ≡ Err Stop.Refused → self.new ≡ self.old }
         ensures refused_out { result ≡ Err Stop.Refused → out.new ≡ out.old }
         ensures spent { (result ≡ Err Stop.Spent) ↔ ((self.old.stopped ≡ false) × (self.old.taken ≡ event_limit)) }

@@ -92,7 +92,8 @@ fn drop_copies(table: &mut TaskTable, lost: &mut Pairs) -> Result<(), AllocError
 fn drop_key(table: &mut TaskTable, key: u32, lost: &mut Pairs) -> Result<(), AllocError>
     requires { key < keys (facts table.old) }
     ensures facts { OnOk result (facts table.new ≡ held_nowhere (need (facts table.old) key) (facts table.old) key) }
-    ensures lost { OnOk result ((w k : ℕ) → has_pair lost.new w k ≡ (has_pair lost.old w k || (holds (facts table.old) w k && (k == key && not (need (facts table.old) key))))) }
+    ensures lost { OnOk result ((w k : ℕ) → has_pair lost.new w k
+        ≡ (has_pair lost.old w k || (holds (facts table.old) w k && (k == key && not (need (facts table.old) key))))) }
     ensures follows { Follows table.old table.new }
 {
     let is_needed = table.is_needed(key);
@@ -189,7 +190,8 @@ fn drop_places(table: &mut TaskTable, lost: &mut Pairs) -> Result<(), AllocError
 fn drop_place(table: &mut TaskTable, key: u32, lost: &mut Pairs) -> Result<(), AllocError>
     requires { key < keys (facts table.old) }
     ensures facts { OnOk result (facts table.new ≡ placed_nowhere (ready (facts table.old) key) (facts table.old) key) }
-    ensures lost { OnOk result ((w k : ℕ) → has_pair lost.new w k ≡ (has_pair lost.old w k || (is_on (facts table.old) w k && (k == key && not (ready (facts table.old) key))))) }
+    ensures lost { OnOk result ((w k : ℕ) → has_pair lost.new w k
+        ≡ (has_pair lost.old w k || (is_on (facts table.old) w k && (k == key && not (ready (facts table.old) key))))) }
     ensures follows { Follows table.old table.new }
 {
     let is_ready = table.is_ready(key);
@@ -223,7 +225,8 @@ fn take_place(
     lost: &mut Pairs,
 ) -> Result<(), AllocError>
     requires { key < keys (facts table.old) }
-    ensures facts { OnOk result (facts table.new ≡ record (facts table.old) { on = put (facts table.old).on key None; steal = put (facts table.old).steal key None }) }
+    ensures facts { OnOk result (facts table.new
+        ≡ record (facts table.old) { on = put (facts table.old).on key None; steal = put (facts table.old).steal key None }) }
     ensures lost { OnOk result (lost.new ≡ lost.old ++ (worker, key) ∷ []) }
     ensures follows { Follows table.old table.new }
 {

@@ -70,7 +70,8 @@ fn tell_each(
 ) -> Result<(), AllocError>
     requires given { errand.now.given ≡ given_keys (facts_of table.now) errand.now.since }
     requires lost { (facts_of table.now).last_worker < length errand.now.lost.items }
-    ensures { OnOk result (out.new ≡ out.old ++ flat_map (mail_by (facts_of table.now) (lost_by errand.now.lost.items) errand.now.since errand.now.answer) (workers (facts_of table.now))) }
+    ensures { OnOk result (out.new
+        ≡ out.old ++ flat_map (mail_by (facts_of table.now) (lost_by errand.now.lost.items) errand.now.since errand.now.answer) (workers (facts_of table.now))) }
 {
     for before in 0..table.last_worker() {
         tell_connected(alloc, table, errand, 1 + before, out)?;
@@ -88,7 +89,8 @@ fn tell_connected(
 ) -> Result<(), AllocError>
     requires given { errand.now.given ≡ given_keys (facts_of table.now) errand.now.since }
     requires lost { worker < length errand.now.lost.items }
-    ensures { OnOk result (out.new ≡ out.old ++ cond (connected (facts_of table.now) worker) (mail_by (facts_of table.now) (lost_by errand.now.lost.items) errand.now.since errand.now.answer worker) []) }
+    ensures { OnOk result (out.new
+        ≡ out.old ++ cond (connected (facts_of table.now) worker) (mail_by (facts_of table.now) (lost_by errand.now.lost.items) errand.now.since errand.now.answer worker) []) }
 {
     if table.is_connected(worker) {
         return tell_worker(alloc, table, errand, worker, out);

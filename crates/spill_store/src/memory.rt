@@ -130,7 +130,8 @@ impl Memory {
 
     /// The block of a key, which is the most recently used one from now on. Where it can't be shared, all is as before.
     pub(crate) fn read(&mut self, key: u32) -> Result<Option<Arc<Block>>, AllocError>
-        ensures read { IfOk result (λ found. MatchOption found ((lookup (nat_eq key) self.old ≡ None) × (self.new ≡ self.old)) (λ b. UsesBlock key b.value self.old self.new)) }
+        ensures read { IfOk result (λ found. MatchOption found ((lookup (nat_eq key) self.old ≡ None)
+            × (self.new ≡ self.old)) (λ b. UsesBlock key b.value self.old self.new)) }
         ensures same { SameValues self.old self.new }
         ensures err { OnErr result (self.new ≡ self.old) }
     {

@@ -30,7 +30,8 @@ pub fn new_rows(alloc: Global, count: u32) -> Result<Vec<KeySet>, AllocError>
 pub fn put_in_row(rows: &mut Vec<KeySet>, count: u32, worker: u32, key: u32, to: bool)
     requires key { key < count }
     requires rows { AreRows count rows.old.items }
-    ensures keys { (w k : ℕ) → in_row rows.new.items w k ≡ cond (worker == w && key == k) (nat_lt worker (length rows.old.items) && to) (in_row rows.old.items w k) }
+    ensures keys { (w k : ℕ)
+        → in_row rows.new.items w k ≡ cond (worker == w && key == k) (nat_lt worker (length rows.old.items) && to) (in_row rows.old.items w k) }
     ensures rows { AreRows count rows.new.items }
     ensures length { length rows.new.items ≡ length rows.old.items }
 {

@@ -60,7 +60,8 @@ fn answer(
     found: &[u32],
 ) -> Result<Instructions, AllocError>
     requires { All (λ i. i.0 < key_count (facts_of table.old).shape) items.now }
-    ensures { IfOk result (λ out. step_of table.new out ≡ answered_ask (record (facts_of table.old) { asks = without_ask (facts_of table.old).asks peer }) peer items.now found.now) }
+    ensures { IfOk result (λ out. step_of table.new out
+        ≡ answered_ask (record (facts_of table.old) { asks = without_ask (facts_of table.old).asks peer }) peer items.now found.now) }
 {
     let came = items_where(alloc, true, items, found)?;
     let missed = items_where(alloc, false, items, found)?;

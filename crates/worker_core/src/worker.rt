@@ -90,7 +90,8 @@ impl WorkerCore {
         ensures possible { OnOk result ((self.old.stopped ≡ false) × (self.old.events < event_limit) × (worker_takes (facts self.old) event ≡ true)) }
 
         // Refused and spent.
-        ensures refused { (result ≡ Err Stop.Refused) ↔ ((self.old.stopped ≡ false) × (self.old.events < event_limit) × (worker_takes (facts self.old) event ≡ false)) }
+        ensures refused { (result ≡ Err Stop.Refused)
+            ↔ ((self.old.stopped ≡ false) × (self.old.events < event_limit) × (worker_takes (facts self.old) event ≡ false)) }
         ensures refused_core { result ≡ Err Stop.Refused → self.new ≡ self.old }
         ensures refused_out { result ≡ Err Stop.Refused → out.new ≡ out.old }
         ensures spent { (result ≡ Err Stop.Spent) ↔ ((self.old.stopped ≡ false) × (self.old.events ≡ event_limit)) }
@@ -125,7 +126,8 @@ impl WorkerCore {
     /// Whether an event can be taken, and why not.
     fn check(&self, event: &WorkerEvent) -> Result<(), Stop>
         ensures possible { OnOk result ((self.now.stopped ≡ false) × (self.now.events < event_limit) × (worker_takes (facts self.now) event.now ≡ true)) }
-        ensures refused { (result ≡ Err Stop.Refused) ↔ ((self.now.stopped ≡ false) × (self.now.events < event_limit) × (worker_takes (facts self.now) event.now ≡ false)) }
+        ensures refused { (result ≡ Err Stop.Refused)
+            ↔ ((self.now.stopped ≡ false) × (self.now.events < event_limit) × (worker_takes (facts self.now) event.now ≡ false)) }
         ensures spent { (result ≡ Err Stop.Spent) ↔ ((self.now.stopped ≡ false) × (self.now.events ≡ event_limit)) }
         ensures memory { (result ≡ Err Stop.Memory) ↔ (self.now.stopped ≡ true) }
     {

@@ -25,7 +25,8 @@ pub fn release()
     ensures not_failed { done (client_after (fresh_client one_key) (Want (0 ∷ []) ∷ FromScheduler (ClientTaskErred 0 0) ∷ Release (0 ∷ []) ∷ [])) 0 ≡ None }
     ensures not_located { (client_after (fresh_client one_key) (told ++ Release (0 ∷ []) ∷ [])).located 0 ≡ [] }
     ensures others { (client_after (fresh_client two_keys) (told ++ Release (1 ∷ []) ∷ [])).located 0 ≡ (2, 7) ∷ [] }
-    ensures flies { client_then_takes (fresh_client one_key) (asking ++ Release (0 ∷ []) ∷ Want (0 ∷ []) ∷ FromScheduler (KeyInMemory 0 ((3, 8) ∷ [])) ∷ []) (Ask 3) ≡ false }
+    ensures flies { client_then_takes (fresh_client one_key) (asking ++ Release (0 ∷ []) ∷ Want (0 ∷ []) ∷ FromScheduler (KeyInMemory 0 ((3, 8) ∷ []))
+        ∷ []) (Ask 3) ≡ false }
 {}
 
 /// The holders are noted where the key is wanted and not got.
@@ -52,18 +53,21 @@ pub fn client_task_erred()
     ensures not_located { (client_after (fresh_client one_key) (told ++ FromScheduler (ClientTaskErred 0 0) ∷ [])).located 0 ≡ [] }
     ensures unwanted { done (client_after (fresh_client two_keys) (FromScheduler (ClientTaskErred 1 0) ∷ [])) 1 ≡ None }
     ensures got { done (client_after (fresh_client one_key) (served ++ FromScheduler (ClientTaskErred 0 0) ∷ [])) 0 ≡ Some Got }
-    ensures both { done (client_after (fresh_client one_key) (Want (0 ∷ []) ∷ FromScheduler (ClientTaskErred 0 0) ∷ FromScheduler (KeyInMemory 0 ((2, 7) ∷ [])) ∷ Ask 2 ∷ Gathered 2 1 (0 ∷ []) ∷ [])) 0 ≡ Some Got }
+    ensures both { done (client_after (fresh_client one_key) (Want (0 ∷ []) ∷ FromScheduler (ClientTaskErred 0 0)
+        ∷ FromScheduler (KeyInMemory 0 ((2, 7) ∷ [])) ∷ Ask 2 ∷ Gathered 2 1 (0 ∷ []) ∷ [])) 0 ≡ Some Got }
     ensures refused { client_then_takes (fresh_client one_key) (Want (0 ∷ []) ∷ []) (FromScheduler (ClientTaskErred 0 1)) ≡ false }
 {}
 
 /// A peer is asked for the wanted keys that it holds, chosen as a worker chooses.
 pub fn ask()
     ensures asked { client_then (fresh_client one_key) told (Ask 2) ≡ Gather 2 1 (0 ∷ []) ∷ [] }
-    ensures both { client_then (fresh_client two_keys) (Want (0 ∷ 1 ∷ []) ∷ FromScheduler (KeyInMemory 1 ((2, 8) ∷ [])) ∷ FromScheduler (KeyInMemory 0 ((2, 7) ∷ [])) ∷ []) (Ask 2) ≡ Gather 2 1 (0 ∷ 1 ∷ []) ∷ [] }
+    ensures both { client_then (fresh_client two_keys) (Want (0 ∷ 1 ∷ []) ∷ FromScheduler (KeyInMemory 1 ((2, 8) ∷ []))
+        ∷ FromScheduler (KeyInMemory 0 ((2, 7) ∷ [])) ∷ []) (Ask 2) ≡ Gather 2 1 (0 ∷ 1 ∷ []) ∷ [] }
     ensures not_a_holder { client_then_takes (fresh_client one_key) told (Ask 3) ≡ false }
     ensures open { client_then_takes (fresh_client one_key) asking (Ask 2) ≡ false }
     ensures got { client_then_takes (fresh_client one_key) (served ++ FromScheduler (KeyInMemory 0 ((2, 7) ∷ [])) ∷ []) (Ask 2) ≡ false }
-    ensures too_large { client_then (fresh_client (sized 67108864 1)) (Want (0 ∷ 1 ∷ []) ∷ FromScheduler (KeyInMemory 1 ((2, 8) ∷ [])) ∷ FromScheduler (KeyInMemory 0 ((2, 7) ∷ [])) ∷ []) (Ask 2) ≡ Gather 2 1 (0 ∷ []) ∷ [] }
+    ensures too_large { client_then (fresh_client (sized 67108864 1)) (Want (0 ∷ 1 ∷ []) ∷ FromScheduler (KeyInMemory 1 ((2, 8) ∷ []))
+        ∷ FromScheduler (KeyInMemory 0 ((2, 7) ∷ [])) ∷ []) (Ask 2) ≡ Gather 2 1 (0 ∷ []) ∷ [] }
 {}
 
 /// A block is got where its key is wanted. A key that wasn't found has no holder any more, and the scheduler is told
@@ -72,7 +76,8 @@ pub fn gathered()
     ensures got { done (client_after (fresh_client one_key) served) 0 ≡ Some Got }
     ensures silent { client_then (fresh_client one_key) asking (Gathered 2 1 (0 ∷ [])) ≡ [] }
     ensures missed { client_then (fresh_client one_key) asking (Gathered 2 1 []) ≡ Send (Missing 0 2 7) ∷ [] }
-    ensures all_holders_go { (client_after (fresh_client one_key) (Want (0 ∷ []) ∷ FromScheduler (KeyInMemory 0 ((2, 7) ∷ (3, 8) ∷ [])) ∷ Ask 2 ∷ Gathered 2 1 [] ∷ [])).located 0 ≡ [] }
+    ensures all_holders_go { (client_after (fresh_client one_key) (Want (0 ∷ []) ∷ FromScheduler (KeyInMemory 0 ((2, 7) ∷ (3, 8) ∷ [])) ∷ Ask 2
+        ∷ Gathered 2 1 [] ∷ [])).located 0 ≡ [] }
     ensures newer_go { (client_after (fresh_client one_key) (asking ++ FromScheduler (KeyInMemory 0 ((3, 8) ∷ [])) ∷ Gathered 2 1 [] ∷ [])).located 0 ≡ [] }
     ensures other_number { client_then (fresh_client one_key) asking (Gathered 2 2 []) ≡ [] }
     ensures released { client_then (fresh_client one_key) (asking ++ Release (0 ∷ []) ∷ []) (Gathered 2 1 []) ≡ [] }
@@ -85,7 +90,8 @@ pub fn gather_failed()
     ensures missed { client_then (fresh_client one_key) asking (GatherFailed 2 1) ≡ Send (Missing 0 2 7) ∷ [] }
     ensures other_number { client_then (fresh_client one_key) asking (GatherFailed 2 2) ≡ [] }
     ensures released { client_then (fresh_client one_key) (asking ++ Release (0 ∷ []) ∷ []) (GatherFailed 2 1) ≡ [] }
-    ensures again { client_then (fresh_client one_key) (asking ++ GatherFailed 2 1 ∷ FromScheduler (KeyInMemory 0 ((2, 7) ∷ [])) ∷ []) (Ask 2) ≡ Gather 2 2 (0 ∷ []) ∷ [] }
+    ensures again { client_then (fresh_client one_key) (asking ++ GatherFailed 2 1 ∷ FromScheduler (KeyInMemory 0 ((2, 7) ∷ [])) ∷ []) (Ask 2)
+        ≡ Gather 2 2 (0 ∷ []) ∷ [] }
 {}
 
 /// The pairs that a client counts are those of all its keys.

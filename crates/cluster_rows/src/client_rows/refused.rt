@@ -11,13 +11,19 @@ ghost use Rattle.cluster_rows.specs.WorkerTalk.{client_after, client_then, clien
 /// An event is refused where it names a key beyond the graph, and so is a failure with such a blame. An empty list is
 /// not.
 pub fn an_event_that_names_no_such_key()
-    ensures want { (client_takes (fresh_client two_keys) (Want (0 ∷ 1 ∷ [])) ≡ true) × (client_takes (fresh_client two_keys) (Want (0 ∷ 2 ∷ [])) ≡ false) × (client_takes (fresh_client two_keys) (Want []) ≡ true) }
-    ensures release { (client_takes (fresh_client two_keys) (Release (0 ∷ 1 ∷ [])) ≡ true) × (client_takes (fresh_client two_keys) (Release (0 ∷ 2 ∷ [])) ≡ false) }
-    ensures held { (client_takes (fresh_client two_keys) (FromScheduler (KeyInMemory 1 ((99, 7) ∷ []))) ≡ true) × (client_takes (fresh_client two_keys) (FromScheduler (KeyInMemory 2 [])) ≡ false) }
-    ensures lost { (client_takes (fresh_client two_keys) (FromScheduler (LostData 1)) ≡ true) × (client_takes (fresh_client two_keys) (FromScheduler (LostData 2)) ≡ false) }
-    ensures erred { (client_takes (fresh_client two_keys) (FromScheduler (ClientTaskErred 1 0)) ≡ true) × (client_takes (fresh_client two_keys) (FromScheduler (ClientTaskErred 2 0)) ≡ false) }
+    ensures want { (client_takes (fresh_client two_keys) (Want (0 ∷ 1 ∷ [])) ≡ true) × (client_takes (fresh_client two_keys) (Want (0 ∷ 2 ∷ [])) ≡ false)
+        × (client_takes (fresh_client two_keys) (Want []) ≡ true) }
+    ensures release { (client_takes (fresh_client two_keys) (Release (0 ∷ 1 ∷ [])) ≡ true)
+        × (client_takes (fresh_client two_keys) (Release (0 ∷ 2 ∷ [])) ≡ false) }
+    ensures held { (client_takes (fresh_client two_keys) (FromScheduler (KeyInMemory 1 ((99, 7) ∷ []))) ≡ true)
+        × (client_takes (fresh_client two_keys) (FromScheduler (KeyInMemory 2 [])) ≡ false) }
+    ensures lost { (client_takes (fresh_client two_keys) (FromScheduler (LostData 1)) ≡ true)
+        × (client_takes (fresh_client two_keys) (FromScheduler (LostData 2)) ≡ false) }
+    ensures erred { (client_takes (fresh_client two_keys) (FromScheduler (ClientTaskErred 1 0)) ≡ true)
+        × (client_takes (fresh_client two_keys) (FromScheduler (ClientTaskErred 2 0)) ≡ false) }
     ensures blame { client_takes (fresh_client two_keys) (FromScheduler (ClientTaskErred 0 2)) ≡ false }
-    ensures found { (client_takes (fresh_client two_keys) (Gathered 2 1 (0 ∷ 1 ∷ [])) ≡ true) × (client_takes (fresh_client two_keys) (Gathered 2 1 (0 ∷ 2 ∷ [])) ≡ false) }
+    ensures found { (client_takes (fresh_client two_keys) (Gathered 2 1 (0 ∷ 1 ∷ [])) ≡ true)
+        × (client_takes (fresh_client two_keys) (Gathered 2 1 (0 ∷ 2 ∷ [])) ≡ false) }
 {}
 
 /// A gather that is of no open ask may come and may fail; neither changes anything.

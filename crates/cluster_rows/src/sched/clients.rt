@@ -29,7 +29,8 @@ pub fn two_clients_want_a_held_key()
 /// Nothing is wanted by an empty list. Clients that aren't there are refused.
 pub fn an_empty_want()
     ensures nothing { let s = when_busy (FromClient 2 (Want [])) in (table s.facts ≡ busy) × (s.down ≡ []) × (s.clients ≡ []) }
-    ensures clients { (may_when_busy (FromClient 0 (Want [])) ≡ false) × (may_when_busy (FromClient 1 (Want [])) ≡ true) × (may_when_busy (FromClient 2 (Want [])) ≡ true) × (may_when_busy (FromClient 3 (Want [])) ≡ false) }
+    ensures clients { (may_when_busy (FromClient 0 (Want [])) ≡ false) × (may_when_busy (FromClient 1 (Want [])) ≡ true)
+        × (may_when_busy (FromClient 2 (Want [])) ≡ true) × (may_when_busy (FromClient 3 (Want [])) ≡ false) }
 {}
 
 /// A released key that nobody else needs is taken back.

@@ -14,8 +14,10 @@ ghost use Rattle.cluster_rows.specs.SchedWorlds.{three_keys, chain, busy, two_in
 /// The eight states of a key.
 pub fn the_states_of_a_key()
     ensures busy { let f = facts_of chain busy in (phase f 0 ≡ Memory) × (phase f 1 ≡ Processing) × (phase f 2 ≡ Processing) }
-    ensures alone { let f = after (sched_opening chain) (FromClient 1 (Want (1 ∷ [])) ∷ []) in (phase f 0 ≡ NoWorker) × (phase f 1 ≡ Waiting) × (phase f 2 ≡ Forgotten) }
-    ensures full { let f = after (sched_opening three_keys) (FromClient 1 (Want (0 ∷ 1 ∷ 2 ∷ [])) ∷ Join 1 ∷ []) in (phase f 1 ≡ Processing) × (phase f 2 ≡ Queued) }
+    ensures alone { let f = after (sched_opening chain) (FromClient 1 (Want (1 ∷ [])) ∷ []) in (phase f 0 ≡ NoWorker) × (phase f 1 ≡ Waiting)
+        × (phase f 2 ≡ Forgotten) }
+    ensures full { let f = after (sched_opening three_keys) (FromClient 1 (Want (0 ∷ 1 ∷ 2 ∷ [])) ∷ Join 1 ∷ []) in (phase f 1 ≡ Processing)
+        × (phase f 2 ≡ Queued) }
     ensures erred { let f = after (facts_of chain busy) (FromWorker 1 (TaskErred 2 1 4) ∷ []) in (phase f 0 ≡ Released) × (phase f 1 ≡ Erred) }
 {}
 
@@ -26,8 +28,10 @@ pub fn a_key_that_has_served()
 
 /// The blame is found down the least erred dependency of each key.
 pub fn whom_to_blame()
-    ensures one { let f = record (sched_opening diamond) { want = λ c k. nat_le 3 k; bad = λ k. nat_le k 1 } in (blame f 3 ≡ Some 0) × (blame f 2 ≡ Some 0) × (blame f 1 ≡ Some 1) × (blame f 4 ≡ None) }
-    ensures other { let f = record (sched_opening diamond) { want = λ c k. nat_le 3 k; bad = λ k. nat_le 1 k } in (blame f 3 ≡ Some 3) × (blame f 2 ≡ Some 2) × (blame f 0 ≡ None) }
+    ensures one { let f = record (sched_opening diamond) { want = λ c k. nat_le 3 k; bad = λ k. nat_le k 1 } in (blame f 3 ≡ Some 0) × (blame f 2 ≡ Some 0)
+        × (blame f 1 ≡ Some 1) × (blame f 4 ≡ None) }
+    ensures other { let f = record (sched_opening diamond) { want = λ c k. nat_le 3 k; bad = λ k. nat_le 1 k } in (blame f 3 ≡ Some 3) × (blame f 2 ≡ Some 2)
+        × (blame f 0 ≡ None) }
 {}
 
 /// A key goes to the holder of a dependency to which the fewest bytes have to be moved. A worker that holds none is no
@@ -58,10 +62,12 @@ pub fn the_least_of_equal_workers()
 /// as many tasks as the saturation says.
 pub fn a_full_worker()
     ensures without { place (after (sched_opening three_keys) (FromClient 1 (Want (0 ∷ 1 ∷ 2 ∷ [])) ∷ Join 1 ∷ [])) 2 ≡ None }
-    ensures equal { let s = sched_step (after (sched_opening (record (two_tasks 80 80) { saturation = 10 })) (FromClient 1 (Want (0 ∷ 1 ∷ [])) ∷ [])) (Join 1) in
+    ensures equal { let s = sched_step (after (sched_opening (record (two_tasks 80 80) { saturation = 10 })) (FromClient 1 (Want (0 ∷ 1 ∷ []))
+        ∷ [])) (Join 1) in
         (s.down ≡ (1, ComputeTask 0 1 []) ∷ []) × (s.facts.on 0 ≡ Some (1, 1)) × (s.facts.on 1 ≡ None) × (s.facts.counter ≡ 2) }
     ensures with { let f = after (sched_opening chain) (Join 1 ∷ FromClient 1 (Want (1 ∷ 2 ∷ [])) ∷ []) in
-        (sched_step (record f { setting = record chain { saturation = 1 } }) (FromWorker 1 (TaskFinished 1 0 1))).down ≡ (1, ComputeTask 1 4 ((0, (1, 3) ∷ []) ∷ [])) ∷ [] }
+        (sched_step (record f { setting = record chain { saturation = 1 } }) (FromWorker 1 (TaskFinished 1 0 1))).down
+        ≡ (1, ComputeTask 1 4 ((0, (1, 3) ∷ []) ∷ [])) ∷ [] }
 {}
 
 /// Where nobody is connected, a key has no place.

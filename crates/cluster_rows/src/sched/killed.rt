@@ -31,7 +31,8 @@ pub fn losses_add_up()
     ensures second { let f = after (busy_allowing (Some 1)) (Leave 2 ∷ Leave 1 ∷ []) in (table f).losses ≡ 0 ∷ 1 ∷ 2 ∷ [] }
     ensures bad { let f = after (busy_allowing (Some 1)) (Leave 2 ∷ Leave 1 ∷ []) in (table f).bad ≡ false ∷ false ∷ true ∷ [] }
     ensures no_more { let f = after (busy_allowing (Some 1)) (Leave 2 ∷ Leave 1 ∷ Join 1 ∷ Leave 3 ∷ []) in (table f).losses ≡ 1 ∷ 1 ∷ 2 ∷ [] }
-    ensures unbounded { let f = after (busy_allowing None) (Leave 2 ∷ Leave 1 ∷ []) in ((table f).losses ≡ 0 ∷ 1 ∷ 2 ∷ []) × ((table f).bad ≡ false ∷ false ∷ false ∷ []) }
+    ensures unbounded { let f = after (busy_allowing None) (Leave 2 ∷ Leave 1 ∷ []) in ((table f).losses ≡ 0 ∷ 1 ∷ 2 ∷ [])
+        × ((table f).bad ≡ false ∷ false ∷ false ∷ []) }
 {}
 
 /// What is no longer known is no error and has no losses; wanted again, it starts anew.

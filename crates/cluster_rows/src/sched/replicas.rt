@@ -41,8 +41,10 @@ pub fn a_block_is_given_up()
 
 /// News from before the fence doesn't take a copy away, and news from the fence on does.
 pub fn a_block_is_given_up_before_and_after_the_fence()
-    ensures before { let f = after (facts_of three_keys both_hold) (FromWorker 1 (AddKeys 4 (2 ∷ [])) ∷ []) in (sched_step f (FromWorker 1 (ReleaseWorkerData 3 2))).facts.has 1 2 ≡ Some 9 }
-    ensures after { let f = after (facts_of three_keys both_hold) (FromWorker 1 (AddKeys 4 (2 ∷ [])) ∷ []) in let s = sched_step f (FromWorker 1 (ReleaseWorkerData 4 2)) in
+    ensures before { let f = after (facts_of three_keys both_hold) (FromWorker 1 (AddKeys 4 (2 ∷ [])) ∷ [])
+        in (sched_step f (FromWorker 1 (ReleaseWorkerData 3 2))).facts.has 1 2 ≡ Some 9 }
+    ensures after { let f = after (facts_of three_keys both_hold) (FromWorker 1 (AddKeys 4 (2 ∷ [])) ∷ [])
+        in let s = sched_step f (FromWorker 1 (ReleaseWorkerData 4 2)) in
         (s.facts.has 1 2 ≡ None) × (s.facts.has 2 2 ≡ Some 8) × (s.down ≡ []) × (s.clients ≡ []) }
 {}
 
@@ -72,7 +74,8 @@ pub fn one_of_two_copies_is_missing()
 /// Another copy than the worker's, or another holder, changes nothing. The worker is answered all the same.
 pub fn another_copy_is_missing()
     ensures copy { let s = when_busy (FromWorker 2 (MissingData 1 0 1 4)) in
-        (s.down ≡ (2, RefreshWhoHas ((0, (1, 3) ∷ []) ∷ [])) ∷ []) × (s.clients ≡ []) × (table s.facts ≡ record busy { workers = busy_one ∷ record busy_two { sent = 2 } ∷ [] }) }
+        (s.down ≡ (2, RefreshWhoHas ((0, (1, 3) ∷ []) ∷ [])) ∷ []) × (s.clients ≡ [])
+        × (table s.facts ≡ record busy { workers = busy_one ∷ record busy_two { sent = 2 } ∷ [] }) }
     ensures holder { let s = when_busy (FromWorker 2 (MissingData 1 0 7 3)) in
         (s.down ≡ (2, RefreshWhoHas ((0, (1, 3) ∷ []) ∷ [])) ∷ []) × (s.facts.has 1 0 ≡ Some 3) }
 {}
@@ -80,7 +83,8 @@ pub fn another_copy_is_missing()
 /// A worker that asks who holds a key is told, with an empty list where nobody does.
 pub fn who_holds_a_key()
     ensures one { let s = when_busy (FromWorker 2 (RequestRefreshWhoHas 1 0)) in
-        (s.down ≡ (2, RefreshWhoHas ((0, (1, 3) ∷ []) ∷ [])) ∷ []) × (s.clients ≡ []) × (table s.facts ≡ record busy { workers = busy_one ∷ record busy_two { sent = 2 } ∷ [] }) }
+        (s.down ≡ (2, RefreshWhoHas ((0, (1, 3) ∷ []) ∷ [])) ∷ []) × (s.clients ≡ [])
+        × (table s.facts ≡ record busy { workers = busy_one ∷ record busy_two { sent = 2 } ∷ [] }) }
     ensures nobody { (when_busy (FromWorker 2 (RequestRefreshWhoHas 1 2))).down ≡ (2, RefreshWhoHas ((2, []) ∷ [])) ∷ [] }
     ensures two { let f = after (facts_of chain busy) (FromWorker 2 (AddKeys 0 (0 ∷ [])) ∷ []) in
         (sched_step f (FromWorker 1 (RequestRefreshWhoHas 2 0))).down ≡ (1, RefreshWhoHas ((0, (1, 3) ∷ (2, 5) ∷ []) ∷ [])) ∷ [] }

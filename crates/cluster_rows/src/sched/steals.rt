@@ -65,7 +65,8 @@ pub fn a_steal_goes_with_its_key()
 pub fn a_victim_says_no()
     ensures no { let s = when_asked (FromWorker 1 (StealResponse 3 0 1 false)) in
         (s.down ≡ []) × (s.clients ≡ []) × (table s.facts ≡ record asked { steal = Some (2, true) ∷ None ∷ None ∷ [] }) }
-    ensures next { said (facts_of three_keys asked) (FromWorker 1 (StealResponse 3 0 1 false) ∷ Balance ∷ []) ≡ ([], []) ∷ ((1, StealRequest 1 2) ∷ [], []) ∷ [] }
+    ensures next { said (facts_of three_keys asked) (FromWorker 1 (StealResponse 3 0 1 false) ∷ Balance ∷ [])
+        ≡ ([], []) ∷ ((1, StealRequest 1 2) ∷ [], []) ∷ [] }
     ensures late { let f = after (facts_of three_keys asked) (FromWorker 1 (StealResponse 3 0 1 false) ∷ []) in
         table (sched_step f (FromWorker 1 (StealResponse 3 0 1 true))).facts ≡ record asked { steal = Some (2, true) ∷ None ∷ None ∷ [] } }
 {}
@@ -112,8 +113,10 @@ pub fn levels()
 
 /// Evict takes the replica from the holder with most bytes, and tells it so. The fence is the place of that message.
 pub fn a_replica_is_dropped()
-    ensures { let s = sched_step (after (sched_opening replicas) (three_holders ++ FromWorker 2 (AddKeys 9 (0 ∷ [])) ∷ FromWorker 3 (AddKeys 9 (0 ∷ [])) ∷ [])) Evict in
-        (s.down ≡ (2, RemoveReplicas (0 ∷ [])) ∷ []) × (s.clients ≡ []) × (s.facts.has 2 0 ≡ None) × (s.facts.has 3 0 ≡ Some 7) × (s.facts.fence 2 0 ≡ 2) × (s.facts.sent 2 ≡ 2) }
+    ensures { let s = sched_step (after (sched_opening replicas) (three_holders ++ FromWorker 2 (AddKeys 9 (0 ∷ [])) ∷ FromWorker 3 (AddKeys 9 (0 ∷ []))
+        ∷ [])) Evict in
+        (s.down ≡ (2, RemoveReplicas (0 ∷ [])) ∷ []) × (s.clients ≡ []) × (s.facts.has 2 0 ≡ None) × (s.facts.has 3 0 ≡ Some 7) × (s.facts.fence 2 0 ≡ 2)
+        × (s.facts.sent 2 ≡ 2) }
 {}
 
 /// Two holders are no more than the one dependent and one to spare.
@@ -123,7 +126,8 @@ pub fn no_replica_to_spare()
 
 /// Of holders with as many bytes the least number gives its replica up.
 pub fn the_least_of_equal_holders()
-    ensures { next_drop (after (sched_opening replicas) (Join 1 ∷ Join 1 ∷ Join 1 ∷ FromClient 1 (Want (1 ∷ 2 ∷ [])) ∷ FromWorker 1 (TaskFinished 1 0 1) ∷ FromWorker 2 (AddKeys 9 (0 ∷ [])) ∷ FromWorker 3 (AddKeys 9 (0 ∷ [])) ∷ [])) ≡ Some (1, 0) }
+    ensures { next_drop (after (sched_opening replicas) (Join 1 ∷ Join 1 ∷ Join 1 ∷ FromClient 1 (Want (1 ∷ 2 ∷ [])) ∷ FromWorker 1 (TaskFinished 1 0 1)
+        ∷ FromWorker 2 (AddKeys 9 (0 ∷ [])) ∷ FromWorker 3 (AddKeys 9 (0 ∷ [])) ∷ [])) ≡ Some (1, 0) }
 {}
 
 /// A dependent that isn't needed doesn't wait: of two holders one is to spare then.

@@ -25,7 +25,8 @@ pub fn a_task_finishes()
 
 /// A finish of another attempt changes nothing, and is no refusal.
 pub fn a_finish_of_another_attempt()
-    ensures { let s = when_busy (FromWorker 1 (TaskFinished 2 1 1)) in (table s.facts ≡ busy) × (s.down ≡ []) × (s.clients ≡ []) × (may_when_busy (FromWorker 1 (TaskFinished 2 1 1)) ≡ true) }
+    ensures { let s = when_busy (FromWorker 1 (TaskFinished 2 1 1)) in (table s.facts ≡ busy) × (s.down ≡ []) × (s.clients ≡ [])
+        × (may_when_busy (FromWorker 1 (TaskFinished 2 1 1)) ≡ true) }
 {}
 
 /// Nor does a finish by another worker, or of a key that is on nobody.

@@ -75,6 +75,7 @@ pub fn nobody_and_nothing()
 /// A key that one dependent waits for may lose one of three holders, and goes at the one that holds most. It may lose
 /// none of two.
 pub fn a_replica_to_spare()
-    ensures three { next_drop (after (sched_opening replicas) (three_holders ++ FromWorker 2 (AddKeys 9 (0 ∷ [])) ∷ FromWorker 3 (AddKeys 9 (0 ∷ [])) ∷ [])) ≡ Some (2, 0) }
+    ensures three { next_drop (after (sched_opening replicas) (three_holders ++ FromWorker 2 (AddKeys 9 (0 ∷ [])) ∷ FromWorker 3 (AddKeys 9 (0 ∷ [])) ∷ []))
+        ≡ Some (2, 0) }
     ensures two { next_drop (after (sched_opening replicas) (three_holders ++ FromWorker 2 (AddKeys 9 (0 ∷ [])) ∷ [])) ≡ None }
 {}

@@ -30,7 +30,8 @@ pub fn a_worker_joins_where_keys_are_queued()
 
 /// A worker has 1 to 16 threads, at most 64 are connected, and none gets a number above 1024.
 pub fn a_worker_that_may_not_join()
-    ensures threads { (may_when_busy (Join 0) ≡ false) × (may_when_busy (Join 1) ≡ true) × (may_when_busy (Join 16) ≡ true) × (may_when_busy (Join 17) ≡ false) }
+    ensures threads { (may_when_busy (Join 0) ≡ false) × (may_when_busy (Join 1) ≡ true) × (may_when_busy (Join 16) ≡ true)
+        × (may_when_busy (Join 17) ≡ false) }
     ensures connected { (sched_takes (record (sched_opening one_key) { threads = λ w. cond (nat_le w 63) (Some 1) None; last_worker = 63 }) (Join 1) ≡ true)
         × (sched_takes (record (sched_opening one_key) { threads = λ w. cond (nat_le w 64) (Some 1) None; last_worker = 64 }) (Join 1) ≡ false) }
     ensures numbers { (sched_takes (record (sched_opening one_key) { last_worker = 1023 }) (Join 1) ≡ true)
@@ -66,8 +67,10 @@ pub fn a_worker_that_may_not_leave()
 
 /// A steal stays where its thief leaves. A yes then finds nobody to give the key to, and the key is placed anew.
 pub fn a_thief_leaves()
-    ensures stays { let s = when_asked (Leave 2) in (s.facts.steal 0 ≡ Some (2, false)) × (s.facts.on 0 ≡ Some (1, 1)) × (s.down ≡ []) × (s.clients ≡ (1, LostData 2) ∷ []) }
-    ensures anew { said (facts_of three_keys asked) (Leave 2 ∷ FromWorker 1 (StealResponse 3 0 1 true) ∷ []) ≡ ([], (1, LostData 2) ∷ []) ∷ ((1, ComputeTask 0 5 []) ∷ [], []) ∷ [] }
+    ensures stays { let s = when_asked (Leave 2) in (s.facts.steal 0 ≡ Some (2, false)) × (s.facts.on 0 ≡ Some (1, 1)) × (s.down ≡ [])
+        × (s.clients ≡ (1, LostData 2) ∷ []) }
+    ensures anew { said (facts_of three_keys asked) (Leave 2 ∷ FromWorker 1 (StealResponse 3 0 1 true) ∷ [])
+        ≡ ([], (1, LostData 2) ∷ []) ∷ ((1, ComputeTask 0 5 []) ∷ [], []) ∷ [] }
 {}
 
 /// Where the victim leaves, the steal of its key goes with it.

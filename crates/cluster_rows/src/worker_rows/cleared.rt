@@ -15,18 +15,25 @@ pub fn a_freed_key()
     ensures sought { then_states (fresh one_key) (Told (AcquireReplicas ((0, (2, 7) ∷ []) ∷ [])) ∷ []) ≡ Fetch ∷ [] }
     ensures no_longer_sought { then_states (fresh one_key) (Told (AcquireReplicas ((0, (2, 7) ∷ []) ∷ [])) ∷ Told (FreeKeys (0 ∷ [])) ∷ []) ≡ Forgotten ∷ [] }
     ensures not_asked { (worker_after (fresh two_keys) (asks_for_input ∷ Told (FreeKeys (0 ∷ 1 ∷ [])) ∷ [])).asked 0 ≡ false }
-    ensures later_task { then_says (fresh two_keys) (asks_for_input ∷ Told (FreeKeys (0 ∷ 1 ∷ [])) ∷ []) (Told (ComputeTask 1 9 ((0, []) ∷ []))) ≡ Send (RequestRefreshWhoHas 3 0) ∷ [] }
+    ensures later_task { then_says (fresh two_keys) (asks_for_input ∷ Told (FreeKeys (0 ∷ 1 ∷ [])) ∷ []) (Told (ComputeTask 1 9 ((0, []) ∷ [])))
+        ≡ Send (RequestRefreshWhoHas 3 0) ∷ [] }
 {}
 
 /// What goes into memory is no longer sought, and no longer asked for.
 pub fn a_kept_key()
-    ensures gathered { then_says (fresh one_key) (Told (AcquireReplicas ((0, (2, 7) ∷ []) ∷ [])) ∷ AskPeer 2 ∷ []) (Gathered 2 1 (0 ∷ [])) ≡ Keep 0 ∷ Send (AddKeys 1 (0 ∷ [])) ∷ [] }
-    ensures not_sought { (worker_after (fresh one_key) (Told (AcquireReplicas ((0, (2, 7) ∷ []) ∷ [])) ∷ AskPeer 2 ∷ Gathered 2 1 (0 ∷ []) ∷ [])).sought 0 ≡ false }
-    ensures sought_while_it_runs { then_states (fresh two_keys) (Told (ComputeTask 0 1 []) ∷ Start ∷ Told (FreeKeys (0 ∷ [])) ∷ Told (AcquireReplicas ((0, []) ∷ [])) ∷ []) ≡ ResumedExecuting ∷ Forgotten ∷ [] }
-    ensures done { then_says (fresh two_keys) (Told (ComputeTask 0 1 []) ∷ Start ∷ Told (FreeKeys (0 ∷ [])) ∷ Told (AcquireReplicas ((0, []) ∷ [])) ∷ []) (Done 0 false) ≡ Keep 0 ∷ Send (AddKeys 3 (0 ∷ [])) ∷ [] }
-    ensures not_sought_then { (worker_after (fresh two_keys) (Told (ComputeTask 0 1 []) ∷ Start ∷ Told (FreeKeys (0 ∷ [])) ∷ Told (AcquireReplicas ((0, []) ∷ [])) ∷ Done 0 false ∷ [])).sought 0 ≡ false }
+    ensures gathered { then_says (fresh one_key) (Told (AcquireReplicas ((0, (2, 7) ∷ []) ∷ [])) ∷ AskPeer 2 ∷ []) (Gathered 2 1 (0 ∷ []))
+        ≡ Keep 0 ∷ Send (AddKeys 1 (0 ∷ [])) ∷ [] }
+    ensures not_sought { (worker_after (fresh one_key) (Told (AcquireReplicas ((0, (2, 7) ∷ []) ∷ [])) ∷ AskPeer 2 ∷ Gathered 2 1 (0 ∷ []) ∷ [])).sought 0
+        ≡ false }
+    ensures sought_while_it_runs { then_states (fresh two_keys) (Told (ComputeTask 0 1 []) ∷ Start ∷ Told (FreeKeys (0 ∷ []))
+        ∷ Told (AcquireReplicas ((0, []) ∷ [])) ∷ []) ≡ ResumedExecuting ∷ Forgotten ∷ [] }
+    ensures done { then_says (fresh two_keys) (Told (ComputeTask 0 1 []) ∷ Start ∷ Told (FreeKeys (0 ∷ [])) ∷ Told (AcquireReplicas ((0, []) ∷ []))
+        ∷ []) (Done 0 false) ≡ Keep 0 ∷ Send (AddKeys 3 (0 ∷ [])) ∷ [] }
+    ensures not_sought_then { (worker_after (fresh two_keys) (Told (ComputeTask 0 1 []) ∷ Start ∷ Told (FreeKeys (0 ∷ []))
+        ∷ Told (AcquireReplicas ((0, []) ∷ [])) ∷ Done 0 false ∷ [])).sought 0 ≡ false }
     ensures asked { (worker_after (fresh two_keys) (asks_for_input ∷ Told (ComputeTask 0 4 []) ∷ Start ∷ [])).asked 0 ≡ true }
-    ensures task { then_says (fresh two_keys) (asks_for_input ∷ Told (ComputeTask 0 4 []) ∷ Start ∷ []) (Done 0 false) ≡ Keep 0 ∷ Send (TaskFinished 2 0 4) ∷ [] }
+    ensures task { then_says (fresh two_keys) (asks_for_input ∷ Told (ComputeTask 0 4 []) ∷ Start ∷ []) (Done 0 false)
+        ≡ Keep 0 ∷ Send (TaskFinished 2 0 4) ∷ [] }
     ensures not_asked { (worker_after (fresh two_keys) (asks_for_input ∷ Told (ComputeTask 0 4 []) ∷ Start ∷ Done 0 false ∷ [])).asked 0 ≡ false }
     ensures ready { then_states (fresh two_keys) (asks_for_input ∷ Told (ComputeTask 0 4 []) ∷ Start ∷ Done 0 false ∷ []) ≡ Memory ∷ Ready ∷ [] }
 {}
@@ -35,7 +42,8 @@ pub fn a_kept_key()
 pub fn an_ask_of_two_keys()
     ensures asked { then_says (fresh three_keys) (two_at_peer ∷ []) (AskPeer 2) ≡ Gather 2 1 (0 ∷ 1 ∷ []) ∷ [] }
     ensures both_fly { then_states (fresh three_keys) (two_at_peer ∷ AskPeer 2 ∷ []) ≡ Flight ∷ Flight ∷ Waiting ∷ [] }
-    ensures one_found { then_says (fresh three_keys) (two_at_peer ∷ AskPeer 2 ∷ []) (Gathered 2 1 (1 ∷ [])) ≡ Keep 1 ∷ Send (AddKeys 1 (1 ∷ [])) ∷ Send (MissingData 1 0 2 7) ∷ [] }
+    ensures one_found { then_says (fresh three_keys) (two_at_peer ∷ AskPeer 2 ∷ []) (Gathered 2 1 (1 ∷ []))
+        ≡ Keep 1 ∷ Send (AddKeys 1 (1 ∷ [])) ∷ Send (MissingData 1 0 2 7) ∷ [] }
     ensures then_missing { then_states (fresh three_keys) (two_at_peer ∷ AskPeer 2 ∷ Gathered 2 1 (1 ∷ []) ∷ []) ≡ Missing ∷ Memory ∷ Waiting ∷ [] }
 {}
 

@@ -34,16 +34,19 @@ pub fn free_keys()
     ensures running { then_states (fresh one_key) (Told (ComputeTask 0 1 []) ∷ Start ∷ Told (FreeKeys (0 ∷ [])) ∷ []) ≡ CancelledExecuting ∷ [] }
     ensures flying { then_states (fresh two_keys) (in_flight ++ Told (FreeKeys (0 ∷ 1 ∷ [])) ∷ []) ≡ CancelledFlight ∷ Forgotten ∷ [] }
     ensures error { then_states (fresh one_key) (Told (ComputeTask 0 1 []) ∷ Start ∷ Done 0 true ∷ Told (FreeKeys (0 ∷ [])) ∷ []) ≡ Forgotten ∷ [] }
-    ensures lost_input { then_says (fresh two_keys) (made ++ Told (ComputeTask 1 3 ((0, (1, 2) ∷ []) ∷ [])) ∷ []) (Told (FreeKeys (0 ∷ []))) ≡ Drop 0 ∷ Send (RequestRefreshWhoHas 3 0) ∷ [] }
+    ensures lost_input { then_says (fresh two_keys) (made ++ Told (ComputeTask 1 3 ((0, (1, 2) ∷ []) ∷ [])) ∷ []) (Told (FreeKeys (0 ∷ [])))
+        ≡ Drop 0 ∷ Send (RequestRefreshWhoHas 3 0) ∷ [] }
 {}
 
 /// A task is given up where it waits or is ready, and is of that attempt. One that runs, or whose block flies, stays.
 pub fn steal_request()
     ensures ready { then_says (fresh one_key) (Told (ComputeTask 0 1 []) ∷ []) (Told (StealRequest 0 1)) ≡ Send (StealResponse 2 0 1 true) ∷ [] }
     ensures gone { then_states (fresh one_key) (Told (ComputeTask 0 1 []) ∷ Told (StealRequest 0 1) ∷ []) ≡ Forgotten ∷ [] }
-    ensures waiting { then_says (fresh two_keys) (Told (ComputeTask 1 3 ((0, (2, 7) ∷ []) ∷ [])) ∷ []) (Told (StealRequest 1 3)) ≡ Send (StealResponse 2 1 3 true) ∷ [] }
+    ensures waiting { then_says (fresh two_keys) (Told (ComputeTask 1 3 ((0, (2, 7) ∷ []) ∷ [])) ∷ []) (Told (StealRequest 1 3))
+        ≡ Send (StealResponse 2 1 3 true) ∷ [] }
     ensures running { then_says (fresh one_key) (Told (ComputeTask 0 1 []) ∷ Start ∷ []) (Told (StealRequest 0 1)) ≡ Send (StealResponse 2 0 1 false) ∷ [] }
-    ensures flying { then_says (fresh two_keys) (in_flight ++ Told (ComputeTask 0 4 []) ∷ []) (Told (StealRequest 0 4)) ≡ Send (StealResponse 3 0 4 false) ∷ [] }
+    ensures flying { then_says (fresh two_keys) (in_flight ++ Told (ComputeTask 0 4 []) ∷ []) (Told (StealRequest 0 4))
+        ≡ Send (StealResponse 3 0 4 false) ∷ [] }
     ensures other_attempt { then_says (fresh one_key) (Told (ComputeTask 0 1 []) ∷ []) (Told (StealRequest 0 2)) ≡ Send (StealResponse 2 0 2 false) ∷ [] }
     ensures no_task { then_says (fresh one_key) made (Told (StealRequest 0 1)) ≡ Send (StealResponse 2 0 1 false) ∷ [] }
 {}
@@ -53,10 +56,14 @@ pub fn steal_request()
 pub fn remove_replicas()
     ensures dropped { then_says (fresh one_key) made (Told (RemoveReplicas (0 ∷ []))) ≡ Drop 0 ∷ [] }
     ensures gone { then_states (fresh one_key) (made ++ Told (RemoveReplicas (0 ∷ [])) ∷ []) ≡ Forgotten ∷ [] }
-    ensures needed { then_says (fresh two_keys) (made ++ Told (ComputeTask 1 3 ((0, (1, 2) ∷ []) ∷ [])) ∷ []) (Told (RemoveReplicas (0 ∷ []))) ≡ Send (AddKeys 3 (0 ∷ [])) ∷ [] }
-    ensures stays { then_states (fresh two_keys) (made ++ Told (ComputeTask 1 3 ((0, (1, 2) ∷ []) ∷ [])) ∷ Told (RemoveReplicas (0 ∷ [])) ∷ []) ≡ Memory ∷ Ready ∷ [] }
-    ensures running { then_says (fresh two_keys) (made ++ Told (ComputeTask 1 3 ((0, (1, 2) ∷ []) ∷ [])) ∷ Start ∷ []) (Told (RemoveReplicas (0 ∷ []))) ≡ Drop 0 ∷ [] }
-    ensures released { then_states (fresh two_keys) (made ++ Told (ComputeTask 1 3 ((0, (1, 2) ∷ []) ∷ [])) ∷ Start ∷ Told (RemoveReplicas (0 ∷ [])) ∷ []) ≡ Released ∷ Executing ∷ [] }
+    ensures needed { then_says (fresh two_keys) (made ++ Told (ComputeTask 1 3 ((0, (1, 2) ∷ []) ∷ [])) ∷ []) (Told (RemoveReplicas (0 ∷ [])))
+        ≡ Send (AddKeys 3 (0 ∷ [])) ∷ [] }
+    ensures stays { then_states (fresh two_keys) (made ++ Told (ComputeTask 1 3 ((0, (1, 2) ∷ []) ∷ [])) ∷ Told (RemoveReplicas (0 ∷ [])) ∷ [])
+        ≡ Memory ∷ Ready ∷ [] }
+    ensures running { then_says (fresh two_keys) (made ++ Told (ComputeTask 1 3 ((0, (1, 2) ∷ []) ∷ [])) ∷ Start ∷ []) (Told (RemoveReplicas (0 ∷ [])))
+        ≡ Drop 0 ∷ [] }
+    ensures released { then_states (fresh two_keys) (made ++ Told (ComputeTask 1 3 ((0, (1, 2) ∷ []) ∷ [])) ∷ Start ∷ Told (RemoveReplicas (0 ∷ [])) ∷ [])
+        ≡ Released ∷ Executing ∷ [] }
     ensures not_there { then_says (fresh one_key) [] (Told (RemoveReplicas (0 ∷ []))) ≡ [] }
 {}
 
@@ -72,12 +79,15 @@ pub fn acquire_replicas()
 /// The scheduler's answer sets the holders. Where nobody holds the key, it is no longer sought; a dependency of a
 /// pending task is asked for again.
 pub fn refresh_who_has()
-    ensures found { then_states (fresh two_keys) (Told (ComputeTask 1 3 ((0, []) ∷ [])) ∷ Told (RefreshWhoHas ((0, (2, 7) ∷ []) ∷ [])) ∷ []) ≡ Fetch ∷ Waiting ∷ [] }
-    ensures answered { (worker_after (fresh two_keys) (Told (ComputeTask 1 3 ((0, []) ∷ [])) ∷ Told (RefreshWhoHas ((0, (2, 7) ∷ []) ∷ [])) ∷ [])).asked 0 ≡ false }
+    ensures found { then_states (fresh two_keys) (Told (ComputeTask 1 3 ((0, []) ∷ [])) ∷ Told (RefreshWhoHas ((0, (2, 7) ∷ []) ∷ [])) ∷ [])
+        ≡ Fetch ∷ Waiting ∷ [] }
+    ensures answered { (worker_after (fresh two_keys) (Told (ComputeTask 1 3 ((0, []) ∷ [])) ∷ Told (RefreshWhoHas ((0, (2, 7) ∷ []) ∷ [])) ∷ [])).asked 0
+        ≡ false }
     ensures asked_before { (worker_after (fresh two_keys) (Told (ComputeTask 1 3 ((0, []) ∷ [])) ∷ [])).asked 0 ≡ true }
     ensures unwanted { then_states (fresh one_key) (Told (RefreshWhoHas ((0, (2, 7) ∷ []) ∷ [])) ∷ []) ≡ Forgotten ∷ [] }
     ensures sought_nowhere { then_states (fresh one_key) (Told (AcquireReplicas ((0, []) ∷ [])) ∷ Told (RefreshWhoHas ((0, []) ∷ [])) ∷ []) ≡ Forgotten ∷ [] }
-    ensures again { then_says (fresh two_keys) (Told (ComputeTask 1 3 ((0, []) ∷ [])) ∷ []) (Told (RefreshWhoHas ((0, []) ∷ []))) ≡ Send (RequestRefreshWhoHas 2 0) ∷ [] }
+    ensures again { then_says (fresh two_keys) (Told (ComputeTask 1 3 ((0, []) ∷ [])) ∷ []) (Told (RefreshWhoHas ((0, []) ∷ [])))
+        ≡ Send (RequestRefreshWhoHas 2 0) ∷ [] }
     ensures itself { then_states (fresh one_key) (Told (AcquireReplicas ((0, []) ∷ [])) ∷ Told (RefreshWhoHas ((0, (1, 7) ∷ []) ∷ [])) ∷ []) ≡ Missing ∷ [] }
     ensures flying { (worker_after (fresh two_keys) (in_flight ++ Told (RefreshWhoHas ((0, (3, 9) ∷ []) ∷ [])) ∷ [])).holders 0 ≡ (3, 9) ∷ [] }
 {}

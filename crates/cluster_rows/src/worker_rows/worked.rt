@@ -10,10 +10,12 @@ ghost use Rattle.cluster_rows.specs.WorkerTalk.{worker_after, worker_says, worke
 /// A task that runs is freed and given again: it is cancelled, then executing, and is run once.
 pub fn a_cancelled_task_is_given_again()
     ensures cancelled { states (worker_after (fresh one_key) (Told (ComputeTask 0 1 []) ∷ Start ∷ Told (FreeKeys (0 ∷ [])) ∷ [])) ≡ CancelledExecuting ∷ [] }
-    ensures executing { states (worker_after (fresh one_key) (Told (ComputeTask 0 1 []) ∷ Start ∷ Told (FreeKeys (0 ∷ [])) ∷ Told (ComputeTask 0 2 []) ∷ [])) ≡ Executing ∷ [] }
+    ensures executing { states (worker_after (fresh one_key) (Told (ComputeTask 0 1 []) ∷ Start ∷ Told (FreeKeys (0 ∷ [])) ∷ Told (ComputeTask 0 2 []) ∷ []))
+        ≡ Executing ∷ [] }
     ensures done { worker_says (fresh one_key) (Told (ComputeTask 0 1 []) ∷ Start ∷ Told (FreeKeys (0 ∷ [])) ∷ Told (ComputeTask 0 2 []) ∷ Done 0 false ∷ []) ≡
         [] ∷ (Execute 0 ∷ []) ∷ [] ∷ [] ∷ (Keep 0 ∷ Send (TaskFinished 3 0 2) ∷ []) ∷ [] }
-    ensures possible { worker_can (fresh one_key) (Told (ComputeTask 0 1 []) ∷ Start ∷ Told (FreeKeys (0 ∷ [])) ∷ Told (ComputeTask 0 2 []) ∷ Done 0 false ∷ []) ≡ true }
+    ensures possible { worker_can (fresh one_key) (Told (ComputeTask 0 1 []) ∷ Start ∷ Told (FreeKeys (0 ∷ [])) ∷ Told (ComputeTask 0 2 []) ∷ Done 0 false
+        ∷ []) ≡ true }
 {}
 
 /// A key that flies is given as a task: it is resumed, and its block finishes the task.

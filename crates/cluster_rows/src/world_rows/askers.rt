@@ -19,8 +19,10 @@ pub fn a_worker_and_a_client_of_one_number()
         (w.requests ≡ parcel (Worker 1) 2 1 (1 ∷ []) ∷ []) × (w.answers ≡ parcel (Client 1) 2 1 (1 ∷ []) ∷ [])
         × (progress w ≡ ServeGather 2 (Worker 1) 1 ∷ ArriveGather (Client 1) 2 1 ∷ []) }
     ensures not_the_others { then_enabled (plain_job three_keys) (both_ask ++ ServeGather 2 (Client 1) 1 ∷ []) (ArriveGather (Worker 1) 2 1) ≡ false }
-    ensures answers { (reached (plain_job three_keys) (both_ask ++ ServeGather 2 (Client 1) 1 ∷ ServeGather 2 (Worker 1) 1 ∷ [])).answers ≡ parcel (Worker 1) 2 1 (1 ∷ []) ∷ parcel (Client 1) 2 1 (1 ∷ []) ∷ [] }
-    ensures one_arrived { let w = reached (plain_job three_keys) (both_ask ++ ServeGather 2 (Client 1) 1 ∷ ServeGather 2 (Worker 1) 1 ∷ ArriveGather (Client 1) 2 1 ∷ []) in
+    ensures answers { (reached (plain_job three_keys) (both_ask ++ ServeGather 2 (Client 1) 1 ∷ ServeGather 2 (Worker 1) 1 ∷ [])).answers
+        ≡ parcel (Worker 1) 2 1 (1 ∷ []) ∷ parcel (Client 1) 2 1 (1 ∷ []) ∷ [] }
+    ensures one_arrived { let w = reached (plain_job three_keys) (both_ask ++ ServeGather 2 (Client 1) 1 ∷ ServeGather 2 (Worker 1) 1
+        ∷ ArriveGather (Client 1) 2 1 ∷ []) in
         (w.answers ≡ parcel (Worker 1) 2 1 (1 ∷ []) ∷ []) × ((w.clients 1).got 1 ≡ true) × ((w.workers 1).mem 1 ≡ false) }
     ensures other_ask_stays { then_enabled (plain_job three_keys) (both_ask ++ FailGather (Worker 1) 2 ∷ []) (FailGather (Client 1) 2) ≡ true }
 {}

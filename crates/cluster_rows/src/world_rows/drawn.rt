@@ -14,14 +14,17 @@ pub fn opening_events_of_a_plan()
 
 /// A simulation ends where the client has got all, or was told of a failure, whatever else could happen.
 pub fn the_end_comes_first()
-    ensures served { comes (standing (plain_job one_key) (one_told ++ SendGather (Client 1) 1 ∷ ServeGather 1 (Client 1) 1 ∷ ArriveGather (Client 1) 1 1 ∷ []) (LoseItem 2 0 ∷ []) 7 5) ≡ Over None }
-    ensures failed { comes (standing (zero_job one_key) (one_started ++ Finish 1 0 ∷ DeliverUp 1 ∷ DeliverToClient 1 ∷ []) (LoseItem 2 0 ∷ []) 7 5) ≡ Over (Some 0) }
+    ensures served { comes (standing (plain_job one_key) (one_told ++ SendGather (Client 1) 1 ∷ ServeGather 1 (Client 1) 1 ∷ ArriveGather (Client 1) 1 1
+        ∷ []) (LoseItem 2 0 ∷ []) 7 5) ≡ Over None }
+    ensures failed { comes (standing (zero_job one_key) (one_started ++ Finish 1 0 ∷ DeliverUp 1 ∷ DeliverToClient 1 ∷ []) (LoseItem 2 0 ∷ []) 7 5)
+        ≡ Over (Some 0) }
     ensures not_yet { comes (standing (plain_job one_key) one_started [] 3 5) ≡ Drawn (Finish 1 0) }
 {}
 
 /// Of two keys that failed the least ends the simulation, though the other's news came first.
 pub fn the_least_failure_ends_it()
-    ensures both { comes (standing (zero_job two_alone) (two_end ++ DeliverUp 2 ∷ DeliverUp 1 ∷ DeliverToClient 1 ∷ DeliverToClient 1 ∷ []) [] 9 5) ≡ Over (Some 0) }
+    ensures both { comes (standing (zero_job two_alone) (two_end ++ DeliverUp 2 ∷ DeliverUp 1 ∷ DeliverToClient 1 ∷ DeliverToClient 1 ∷ []) [] 9 5)
+        ≡ Over (Some 0) }
     ensures first { comes (standing (zero_job two_alone) (two_end ++ DeliverUp 2 ∷ DeliverUp 1 ∷ DeliverToClient 1 ∷ []) [] 9 5) ≡ Over (Some 1) }
 {}
 
@@ -36,7 +39,8 @@ pub fn a_join_waits_for_a_place()
 pub fn the_script_comes_second()
     ensures reached { comes (standing (plain_job one_key) one_started (SuspectItem 1 0 ∷ []) 3 5) ≡ Scripted (Suspect 1) [] }
     ensures not_reached { comes (standing (plain_job one_key) one_started (SuspectItem 1 1 ∷ LoseItem 2 1 ∷ []) 3 5) ≡ Drawn (Finish 1 0) }
-    ensures passed_over { comes (standing (plain_job one_key) (one_started ++ Suspect 1 ∷ []) (LoseItem 1 0 ∷ JoinItem 0 ∷ LoseItem 2 1 ∷ []) 3 5) ≡ Scripted (Join 1) (LoseItem 2 1 ∷ []) }
+    ensures passed_over { comes (standing (plain_job one_key) (one_started ++ Suspect 1 ∷ []) (LoseItem 1 0 ∷ JoinItem 0 ∷ LoseItem 2 1 ∷ []) 3 5)
+        ≡ Scripted (Join 1) (LoseItem 2 1 ∷ []) }
     ensures dead { comes (standing (plain_job one_key) (one_started ++ Lose 1 ∷ []) (SuspectItem 1 0 ∷ []) 3 5) ≡ Drawn (SeeLoss 1) }
     ensures before_turns { comes (standing (plain_job three_alone) one_idle (LoseItem 2 1 ∷ []) 8 0) ≡ Scripted (Lose 2) [] }
 {}

@@ -17,7 +17,8 @@ ghost use Rattle.cluster_rows.specs.SmallWorlds.{plain_job, zero_job, can, then_
 /// A client wants keys of the graph, some at least; so it releases them.
 pub fn want_and_release()
     ensures want { (reached (plain_job two_keys) (Want 1 (1 ∷ []) ∷ [])).from_client 1 ≡ WantMessage (1 ∷ []) ∷ [] }
-    ensures release { (reached (plain_job two_keys) (Want 1 (1 ∷ []) ∷ Release 1 (1 ∷ []) ∷ [])).from_client 1 ≡ WantMessage (1 ∷ []) ∷ ReleaseMessage (1 ∷ []) ∷ [] }
+    ensures release { (reached (plain_job two_keys) (Want 1 (1 ∷ []) ∷ Release 1 (1 ∷ []) ∷ [])).from_client 1
+        ≡ WantMessage (1 ∷ []) ∷ ReleaseMessage (1 ∷ []) ∷ [] }
     ensures no_such_key { then_enabled (plain_job two_keys) [] (Want 1 (2 ∷ [])) ≡ false }
     ensures no_key { then_enabled (plain_job two_keys) [] (Want 1 []) ≡ false }
     ensures no_such_client { then_enabled (plain_job two_keys) [] (Want 2 (1 ∷ [])) ≡ false }
@@ -61,7 +62,8 @@ pub fn suspect()
 /// The first message of a link is delivered: to a worker that lives, from any worker, and dropped where that isn't
 /// connected.
 pub fn deliveries()
-    ensures first { let w = reached (plain_job two_keys) (joined_two (1 ∷ [])) in (w.down 1 ≡ ComputeTask 0 1 [] ∷ []) × (message w (DeliverDown 1) ≡ Some (DownMessage (ComputeTask 0 1 []))) }
+    ensures first { let w = reached (plain_job two_keys) (joined_two (1 ∷ [])) in (w.down 1 ≡ ComputeTask 0 1 [] ∷ [])
+        × (message w (DeliverDown 1) ≡ Some (DownMessage (ComputeTask 0 1 []))) }
     ensures taken { let w = reached (plain_job two_keys) (joined_two (1 ∷ []) ++ DeliverDown 1 ∷ []) in (w.down 1 ≡ []) × ((w.workers 1).mine 0 ≡ Some 1) }
     ensures dead { then_enabled (plain_job two_keys) (joined_two (1 ∷ []) ++ Lose 1 ∷ []) (DeliverDown 1) ≡ false }
     ensures nothing_down { then_enabled (plain_job two_keys) (joined_two (1 ∷ [])) (DeliverDown 2) ≡ false }
@@ -88,21 +90,27 @@ pub fn start_and_finish()
 /// A request goes to its peer, and an answer comes back with what the peer has then.
 pub fn gathers()
     ensures legal { can (plain_job three_keys) (opening (plain_job three_keys)) third_made ≡ true }
-    ensures request { (reached (plain_job three_keys) (both_made ++ SendGather (Worker 1) 2 ∷ [])).requests ≡ record { asker = Worker 1; peer = 2; ask = 1; keys = 1 ∷ [] } ∷ [] }
+    ensures request { (reached (plain_job three_keys) (both_made ++ SendGather (Worker 1) 2 ∷ [])).requests
+        ≡ record { asker = Worker 1; peer = 2; ask = 1; keys = 1 ∷ [] } ∷ [] }
     ensures answer { let w = reached (plain_job three_keys) (both_made ++ SendGather (Worker 1) 2 ∷ ServeGather 2 (Worker 1) 1 ∷ []) in
         (w.requests ≡ []) × (w.answers ≡ record { asker = Worker 1; peer = 2; ask = 1; keys = 1 ∷ [] } ∷ []) }
-    ensures arrived { let w = reached (plain_job three_keys) (both_made ++ SendGather (Worker 1) 2 ∷ ServeGather 2 (Worker 1) 1 ∷ ArriveGather (Worker 1) 2 1 ∷ []) in
+    ensures arrived { let w = reached (plain_job three_keys) (both_made ++ SendGather (Worker 1) 2 ∷ ServeGather 2 (Worker 1) 1 ∷ ArriveGather (Worker 1) 2 1
+        ∷ []) in
         (w.answers ≡ []) × (w.up 1 ≡ AddKeys 2 (1 ∷ []) ∷ []) × ((w.workers 1).mem 1 ≡ true) }
     ensures no_holder { then_enabled (plain_job three_keys) both_made (SendGather (Worker 2) 1) ≡ false }
     ensures once { then_enabled (plain_job three_keys) (both_made ++ SendGather (Worker 1) 2 ∷ []) (SendGather (Worker 1) 2) ≡ false }
     ensures dead_asker { then_enabled (plain_job three_keys) (both_made ++ Lose 1 ∷ []) (SendGather (Worker 1) 2) ≡ false }
     ensures dead_peer { then_enabled (plain_job three_keys) (both_made ++ SendGather (Worker 1) 2 ∷ Lose 2 ∷ []) (ServeGather 2 (Worker 1) 1) ≡ false }
     ensures served_for_the_dead { then_enabled (plain_job three_keys) (both_made ++ SendGather (Worker 1) 2 ∷ Lose 1 ∷ []) (ServeGather 2 (Worker 1) 1) ≡ true }
-    ensures not_taken_by_the_dead { then_enabled (plain_job three_keys) (both_made ++ SendGather (Worker 1) 2 ∷ ServeGather 2 (Worker 1) 1 ∷ Lose 1 ∷ []) (ArriveGather (Worker 1) 2 1) ≡ false }
+    ensures not_taken_by_the_dead { then_enabled (plain_job three_keys) (both_made ++ SendGather (Worker 1) 2 ∷ ServeGather 2 (Worker 1) 1 ∷ Lose 1
+        ∷ []) (ArriveGather (Worker 1) 2 1) ≡ false }
     ensures other_number { then_enabled (plain_job three_keys) (both_made ++ SendGather (Worker 1) 2 ∷ []) (ServeGather 2 (Worker 1) 2) ≡ false }
-    ensures spoken { message (reached (plain_job three_keys) (both_made ++ SendGather (Worker 1) 2 ∷ [])) (ServeGather 2 (Worker 1) 1) ≡ Some (PeerMessage (GetData 1 (1 ∷ []))) }
-    ensures answered { message (reached (plain_job three_keys) (both_made ++ SendGather (Worker 1) 2 ∷ ServeGather 2 (Worker 1) 1 ∷ [])) (ArriveGather (Worker 1) 2 1) ≡ Some (PeerMessage (Data 1 (1 ∷ []))) }
-    ensures lost_meanwhile { let w = reached (plain_job three_keys) (both_made ++ SendGather (Worker 1) 2 ∷ Spill 2 1 ∷ LoseSpilled 2 1 ∷ ServeGather 2 (Worker 1) 1 ∷ ArriveGather (Worker 1) 2 1 ∷ []) in
+    ensures spoken { message (reached (plain_job three_keys) (both_made ++ SendGather (Worker 1) 2 ∷ [])) (ServeGather 2 (Worker 1) 1)
+        ≡ Some (PeerMessage (GetData 1 (1 ∷ []))) }
+    ensures answered { message (reached (plain_job three_keys) (both_made ++ SendGather (Worker 1) 2 ∷ ServeGather 2 (Worker 1) 1
+        ∷ [])) (ArriveGather (Worker 1) 2 1) ≡ Some (PeerMessage (Data 1 (1 ∷ []))) }
+    ensures lost_meanwhile { let w = reached (plain_job three_keys) (both_made ++ SendGather (Worker 1) 2 ∷ Spill 2 1 ∷ LoseSpilled 2 1
+        ∷ ServeGather 2 (Worker 1) 1 ∷ ArriveGather (Worker 1) 2 1 ∷ []) in
         w.up 1 ≡ MissingData 2 1 2 4 ∷ [] }
 {}
 
@@ -111,7 +119,8 @@ pub fn fail_gather()
     ensures failed { let w = reached (plain_job three_keys) (both_made ++ SendGather (Worker 1) 2 ∷ FailGather (Worker 1) 2 ∷ []) in
         (w.up 1 ≡ MissingData 2 1 2 4 ∷ []) × (w.requests ≡ record { asker = Worker 1; peer = 2; ask = 1; keys = 1 ∷ [] } ∷ []) }
     ensures no_ask { then_enabled (plain_job three_keys) both_made (FailGather (Worker 1) 2) ≡ false }
-    ensures late { let w = reached (plain_job three_keys) (both_made ++ SendGather (Worker 1) 2 ∷ FailGather (Worker 1) 2 ∷ ServeGather 2 (Worker 1) 1 ∷ ArriveGather (Worker 1) 2 1 ∷ []) in
+    ensures late { let w = reached (plain_job three_keys) (both_made ++ SendGather (Worker 1) 2 ∷ FailGather (Worker 1) 2 ∷ ServeGather 2 (Worker 1) 1
+        ∷ ArriveGather (Worker 1) 2 1 ∷ []) in
         ((w.workers 1).mem 1 ≡ false) × (w.answers ≡ []) × (w.up 1 ≡ MissingData 2 1 2 4 ∷ []) }
     ensures client { (reached (plain_job one_key) (one_told ++ SendGather (Client 1) 1 ∷ FailGather (Client 1) 1 ∷ [])).from_client 1 ≡ Missing 0 1 2 ∷ [] }
 {}
@@ -121,7 +130,8 @@ pub fn balance_and_evict()
     ensures no_steal { then_enabled (plain_job one_key) one_started Balance ≡ false }
     ensures legal { can (plain_job three_alone) (opening (plain_job three_alone)) (one_idle ++ Balance ∷ []) ≡ true }
     ensures asked { (reached (plain_job three_alone) (one_idle ++ Balance ∷ [])).down 1 ≡ ComputeTask 0 1 [] ∷ ComputeTask 1 2 [] ∷ StealRequest 0 1 ∷ [] }
-    ensures next_key { (reached (plain_job three_alone) (one_idle ++ Balance ∷ Balance ∷ [])).down 1 ≡ ComputeTask 0 1 [] ∷ ComputeTask 1 2 [] ∷ StealRequest 0 1 ∷ StealRequest 1 2 ∷ [] }
+    ensures next_key { (reached (plain_job three_alone) (one_idle ++ Balance ∷ Balance ∷ [])).down 1
+        ≡ ComputeTask 0 1 [] ∷ ComputeTask 1 2 [] ∷ StealRequest 0 1 ∷ StealRequest 1 2 ∷ [] }
     ensures no_more { then_enabled (plain_job three_alone) (one_idle ++ Balance ∷ Balance ∷ []) Balance ≡ false }
     ensures no_replica { then_enabled (plain_job three_keys) both_made Evict ≡ false }
     ensures spare { then_enabled (plain_job three_keys) third_made Evict ≡ true }

@@ -12,8 +12,10 @@ ghost use Rattle.cluster_rows.specs.SmallWorlds.{plain_job, bounded_job, plan, p
 /// A worker is suspected while the second of two keys is assigned to it, and no loss is allowed: the client is told of
 /// that key, after six turns.
 pub fn no_loss_is_allowed()
-    ensures told { play_all 30 (bounded_job (Some 0) two_keys) (λ t. 0) suspected_at_one (1 ∷ []) ≡ (suspected_start ++ DeliverToClient 1 ∷ [], Some (Served 6 (Some 1))) }
-    ensures any_word { play_all 30 (bounded_job (Some 0) two_keys) (λ t. 1) suspected_at_one (1 ∷ []) ≡ (suspected_start ++ DeliverToClient 1 ∷ [], Some (Served 6 (Some 1))) }
+    ensures told { play_all 30 (bounded_job (Some 0) two_keys) (λ t. 0) suspected_at_one (1 ∷ [])
+        ≡ (suspected_start ++ DeliverToClient 1 ∷ [], Some (Served 6 (Some 1))) }
+    ensures any_word { play_all 30 (bounded_job (Some 0) two_keys) (λ t. 1) suspected_at_one (1 ∷ [])
+        ≡ (suspected_start ++ DeliverToClient 1 ∷ [], Some (Served 6 (Some 1))) }
     ensures counted { let w = reached (bounded_job (Some 0) two_keys) (opening_events (plan 2) (1 ∷ []) ++ suspected_start) in
         (w.sched.losses 0 ≡ 0) × (w.sched.losses 1 ≡ 1) × (w.sched.bad 1 ≡ true) × (w.to_client 1 ≡ ClientTaskErred 1 1 ∷ []) }
     ensures killed { (killed (bounded_job (Some 0) two_keys) (opening_events (plan 2) (1 ∷ []) ++ suspected_start) 1 ≡ true)
@@ -26,7 +28,8 @@ pub fn one_loss_is_allowed()
         (suspected_start ++ done_by_two ++ DeliverDown 2 ∷ client_served 2, Some (Served 18 None)) }
     ensures seventeen { play_all 30 (bounded_job (Some 1) two_keys) (λ t. 1) suspected_at_one (1 ∷ []) ≡
         (suspected_start ++ done_by_two ++ client_served 2, Some (Served 17 None)) }
-    ensures counted { let w = reached (bounded_job (Some 1) two_keys) (opening_events (plan 2) (1 ∷ []) ++ suspected_start ++ done_by_two) in (w.sched.losses 1 ≡ 1) × (w.sched.bad 1 ≡ false) }
+    ensures counted { let w = reached (bounded_job (Some 1) two_keys) (opening_events (plan 2) (1 ∷ []) ++ suspected_start ++ done_by_two)
+        in (w.sched.losses 1 ≡ 1) × (w.sched.bad 1 ≡ false) }
     ensures not_killed { killed (bounded_job (Some 1) two_keys) (opening_events (plan 2) (1 ∷ []) ++ suspected_start) 1 ≡ false }
 {}
 
@@ -36,12 +39,14 @@ pub fn a_copy_is_gathered()
     ensures holder { then_enabled (plain_job three_keys) both_made (Replicate 0 1) ≡ false }
     ensures not_held { then_enabled (plain_job three_keys) both_made (Replicate 2 2) ≡ false }
     ensures legal { can (plain_job three_keys) (opening (plain_job three_keys)) (copied ++ DeliverUp 2 ∷ []) ≡ true }
-    ensures said { let w = reached (plain_job three_keys) copied in ((w.workers 2).mem 0 ≡ true) × (w.up 2 ≡ AddKeys 2 (0 ∷ []) ∷ []) × (w.sched.has 2 0 ≡ None) }
+    ensures said { let w = reached (plain_job three_keys) copied in ((w.workers 2).mem 0 ≡ true) × (w.up 2 ≡ AddKeys 2 (0 ∷ []) ∷ [])
+        × (w.sched.has 2 0 ≡ None) }
     ensures counted { let w = reached (plain_job three_keys) (copied ++ DeliverUp 2 ∷ []) in (w.sched.has 2 0 ≡ Some 6) × (w.up 2 ≡ []) × (w.down 2 ≡ []) }
     ensures again { then_enabled (plain_job three_keys) (copied ++ DeliverUp 2 ∷ []) (Replicate 0 2) ≡ false }
 {}
 
 /// The only holder is lost before the copy is counted: the new holder is freed of it, and the key is made again.
 pub fn a_copy_that_comes_too_late()
-    ensures freed { let w = reached (plain_job three_keys) (copied ++ Lose 1 ∷ SeeLoss 1 ∷ DeliverUp 2 ∷ []) in (w.sched.has 2 0 ≡ None) × (w.sched.on 0 ≡ Some (2, 6)) }
+    ensures freed { let w = reached (plain_job three_keys) (copied ++ Lose 1 ∷ SeeLoss 1 ∷ DeliverUp 2 ∷ []) in (w.sched.has 2 0 ≡ None)
+        × (w.sched.on 0 ≡ Some (2, 6)) }
 {}

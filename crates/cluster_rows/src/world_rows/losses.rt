@@ -16,9 +16,11 @@ pub fn a_suspected_workers_finish_is_dropped()
     ensures again { (reached (plain_job one_key) (one_started ++ Suspect 1 ∷ [])).sched.on 0 ≡ Some (2, 2) }
     ensures dropped { let w = reached (plain_job one_key) (one_started ++ Suspect 1 ∷ Finish 1 0 ∷ DeliverUp 1 ∷ []) in
         (w.sched.on 0 ≡ Some (2, 2)) × (w.sched.finishes ≡ 0) × (w.up 1 ≡ []) }
-    ensures counted { let w = reached (plain_job one_key) (one_started ++ Suspect 1 ∷ Finish 1 0 ∷ DeliverUp 1 ∷ DeliverDown 2 ∷ Start 2 ∷ Finish 2 0 ∷ DeliverUp 2 ∷ []) in
+    ensures counted { let w = reached (plain_job one_key) (one_started ++ Suspect 1 ∷ Finish 1 0 ∷ DeliverUp 1 ∷ DeliverDown 2 ∷ Start 2 ∷ Finish 2 0
+        ∷ DeliverUp 2 ∷ []) in
         (w.sched.on 0 ≡ None) × (w.sched.has 2 0 ≡ Some 3) × (w.sched.finishes ≡ 1) }
-    ensures legal { can (plain_job one_key) (opening (plain_job one_key)) (one_started ++ Suspect 1 ∷ Finish 1 0 ∷ DeliverUp 1 ∷ DeliverDown 2 ∷ Start 2 ∷ Finish 2 0 ∷ DeliverUp 2 ∷ []) ≡ true }
+    ensures legal { can (plain_job one_key) (opening (plain_job one_key)) (one_started ++ Suspect 1 ∷ Finish 1 0 ∷ DeliverUp 1 ∷ DeliverDown 2 ∷ Start 2
+        ∷ Finish 2 0 ∷ DeliverUp 2 ∷ []) ≡ true }
 {}
 
 /// The only holder is lost before the client gathers: the client hears so, the other worker makes the block again, and
@@ -26,9 +28,11 @@ pub fn a_suspected_workers_finish_is_dropped()
 pub fn a_lost_block_is_made_again()
     ensures told { let w = reached (plain_job one_key) (one_told ++ Lose 1 ∷ SeeLoss 1 ∷ []) in
         (w.to_client 1 ≡ LostData 0 ∷ []) × (w.sched.on 0 ≡ Some (2, 3)) }
-    ensures got { let w = reached (plain_job one_key) (one_told ++ Lose 1 ∷ SeeLoss 1 ∷ DeliverToClient 1 ∷ DeliverDown 2 ∷ Start 2 ∷ Finish 2 0 ∷ DeliverUp 2 ∷ client_served 2) in
+    ensures got { let w = reached (plain_job one_key) (one_told ++ Lose 1 ∷ SeeLoss 1 ∷ DeliverToClient 1 ∷ DeliverDown 2 ∷ Start 2 ∷ Finish 2 0 ∷ DeliverUp 2
+        ∷ client_served 2) in
         (w.clients 1).got 0 ≡ true }
-    ensures legal { can (plain_job one_key) (opening (plain_job one_key)) (one_told ++ Lose 1 ∷ SeeLoss 1 ∷ DeliverToClient 1 ∷ DeliverDown 2 ∷ Start 2 ∷ Finish 2 0 ∷ DeliverUp 2 ∷ client_served 2) ≡ true }
+    ensures legal { can (plain_job one_key) (opening (plain_job one_key)) (one_told ++ Lose 1 ∷ SeeLoss 1 ∷ DeliverToClient 1 ∷ DeliverDown 2 ∷ Start 2
+        ∷ Finish 2 0 ∷ DeliverUp 2 ∷ client_served 2) ≡ true }
 {}
 
 /// Once the last worker is lost too, and nothing is under way, no progress event is left, though the client waits.
@@ -42,5 +46,7 @@ pub fn an_attempt_ends_before_the_next()
     ensures first { Gives (plain_job one_key) (reached (plain_job one_key) (opening_events (plan 2) (0 ∷ []))) (DeliverFromClient 1) 1 0 1 }
     ensures next { Gives (plain_job one_key) (reached (plain_job one_key) one_started) (Suspect 1) 2 0 2 }
     ensures ended { Ended (plain_job one_key) (one_started ++ Suspect 1 ∷ []) 1 0 1 }
-    ensures not_by_its_start { ends_in (reached (plain_job one_key) (opening_events (plan 2) (0 ∷ []) ++ DeliverFromClient 1 ∷ DeliverDown 1 ∷ [])) 1 0 1 (sched_event (reached (plain_job one_key) (opening_events (plan 2) (0 ∷ []) ++ DeliverFromClient 1 ∷ DeliverDown 1 ∷ [])) (Start 1)) ≡ false }
+    ensures not_by_its_start { ends_in (reached (plain_job one_key) (opening_events (plan 2) (0 ∷ []) ++ DeliverFromClient 1 ∷ DeliverDown 1
+        ∷ [])) 1 0 1 (sched_event (reached (plain_job one_key) (opening_events (plan 2) (0 ∷ []) ++ DeliverFromClient 1 ∷ DeliverDown 1 ∷ [])) (Start 1))
+        ≡ false }
 {}

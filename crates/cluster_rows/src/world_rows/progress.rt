@@ -11,12 +11,16 @@ ghost use Rattle.cluster_rows.specs.SmallWorlds.{plain_job, then_enabled, joined
 /// Kind by kind in the table's order, and within a kind by number.
 pub fn in_the_tables_order()
     ensures opening { progress (opening (plain_job one_key)) ≡ [] }
-    ensures client_last { progress (reached (plain_job three_keys) (joined_two (2 ∷ []) ++ Want 1 (1 ∷ []) ∷ [])) ≡ DeliverDown 1 ∷ DeliverDown 2 ∷ DeliverFromClient 1 ∷ [] }
-    ensures start_before_finish { progress (reached (plain_job three_keys) (joined_two (2 ∷ []) ++ DeliverDown 1 ∷ DeliverDown 2 ∷ Start 2 ∷ [])) ≡ Start 1 ∷ Finish 2 1 ∷ [] }
-    ensures up_before_start { progress (reached (plain_job three_keys) (joined_two (2 ∷ []) ++ DeliverDown 1 ∷ DeliverDown 2 ∷ Start 2 ∷ Finish 2 1 ∷ [])) ≡ DeliverUp 2 ∷ Start 1 ∷ [] }
+    ensures client_last { progress (reached (plain_job three_keys) (joined_two (2 ∷ []) ++ Want 1 (1 ∷ []) ∷ []))
+        ≡ DeliverDown 1 ∷ DeliverDown 2 ∷ DeliverFromClient 1 ∷ [] }
+    ensures start_before_finish { progress (reached (plain_job three_keys) (joined_two (2 ∷ []) ++ DeliverDown 1 ∷ DeliverDown 2 ∷ Start 2 ∷ []))
+        ≡ Start 1 ∷ Finish 2 1 ∷ [] }
+    ensures up_before_start { progress (reached (plain_job three_keys) (joined_two (2 ∷ []) ++ DeliverDown 1 ∷ DeliverDown 2 ∷ Start 2 ∷ Finish 2 1 ∷ []))
+        ≡ DeliverUp 2 ∷ Start 1 ∷ [] }
     ensures loss_first { progress (reached (plain_job one_key) (one_told ++ Lose 1 ∷ [])) ≡ SeeLoss 1 ∷ SendGather (Client 1) 1 ∷ [] }
     ensures fail_last { progress (reached (plain_job one_key) (one_told ++ SendGather (Client 1) 1 ∷ Lose 1 ∷ [])) ≡ SeeLoss 1 ∷ FailGather (Client 1) 1 ∷ [] }
-    ensures workers_ask_first { progress (reached (plain_job three_keys) (both_made ++ SendGather (Worker 1) 2 ∷ [])) ≡ DeliverToClient 1 ∷ ServeGather 2 (Worker 1) 1 ∷ [] }
+    ensures workers_ask_first { progress (reached (plain_job three_keys) (both_made ++ SendGather (Worker 1) 2 ∷ []))
+        ≡ DeliverToClient 1 ∷ ServeGather 2 (Worker 1) 1 ∷ [] }
 {}
 
 /// What a suspected worker does beside serving blocks is no progress, though it stays enabled; nor is a failed ask to a
@@ -26,7 +30,8 @@ pub fn suspected_workers_make_no_progress()
     ensures no_progress { progress (reached (plain_job one_key) (one_started ++ Suspect 1 ∷ [])) ≡ DeliverDown 2 ∷ [] }
     ensures says { then_enabled (plain_job one_key) (one_started ++ Finish 1 0 ∷ Suspect 1 ∷ []) (DeliverUp 1) ≡ true }
     ensures unheard { progress (reached (plain_job one_key) (one_started ++ Finish 1 0 ∷ Suspect 1 ∷ [])) ≡ DeliverDown 2 ∷ [] }
-    ensures serves { progress (reached (plain_job one_key) (one_told ++ SendGather (Client 1) 1 ∷ Suspect 1 ∷ [])) ≡ DeliverDown 2 ∷ DeliverToClient 1 ∷ ServeGather 1 (Client 1) 1 ∷ [] }
+    ensures serves { progress (reached (plain_job one_key) (one_told ++ SendGather (Client 1) 1 ∷ Suspect 1 ∷ []))
+        ≡ DeliverDown 2 ∷ DeliverToClient 1 ∷ ServeGather 1 (Client 1) 1 ∷ [] }
     ensures fails { then_enabled (plain_job one_key) (one_told ++ SendGather (Client 1) 1 ∷ []) (FailGather (Client 1) 1) ≡ true }
     ensures only_served { progress (reached (plain_job one_key) (one_told ++ SendGather (Client 1) 1 ∷ [])) ≡ ServeGather 1 (Client 1) 1 ∷ [] }
 {}

@@ -12,10 +12,14 @@ ghost use Rattle.cluster_rows.specs.SmallWorlds.{plain_job, one_runs, three_alon
 pub fn a_drained_worker_agrees()
     ensures drained { Drained (reached (plain_job three_alone) one_runs) 1 × Drained (reached (plain_job three_alone) one_runs) 2 }
     ensures has { let w = reached (plain_job three_alone) one_runs in
-        (map (w.workers 1).mine (below 3) ≡ Some 1 ∷ Some 2 ∷ None ∷ []) × (map (w.workers 2).mine (below 3) ≡ None ∷ None ∷ None ∷ []) × (map w.sched.on (below 3) ≡ Some (1, 1) ∷ Some (1, 2) ∷ None ∷ []) }
-    ensures holds_first { let w = reached (plain_job three_alone) one_runs in (map (w.workers 1).mem (below 3) ≡ false ∷ false ∷ false ∷ []) × (map (holds w.sched 1) (below 3) ≡ false ∷ false ∷ false ∷ []) }
-    ensures holds_second { let w = reached (plain_job three_alone) one_runs in (map (w.workers 2).mem (below 3) ≡ false ∷ false ∷ true ∷ []) × (map (holds w.sched 2) (below 3) ≡ false ∷ false ∷ true ∷ []) }
-    ensures not_while_under_way { let w = reached (plain_job three_alone) (one_runs ++ Finish 1 0 ∷ []) in ((w.workers 1).mem 0 ≡ true) × (holds w.sched 1 0 ≡ false) }
+        (map (w.workers 1).mine (below 3) ≡ Some 1 ∷ Some 2 ∷ None ∷ []) × (map (w.workers 2).mine (below 3) ≡ None ∷ None ∷ None ∷ [])
+        × (map w.sched.on (below 3) ≡ Some (1, 1) ∷ Some (1, 2) ∷ None ∷ []) }
+    ensures holds_first { let w = reached (plain_job three_alone) one_runs in (map (w.workers 1).mem (below 3) ≡ false ∷ false ∷ false ∷ [])
+        × (map (holds w.sched 1) (below 3) ≡ false ∷ false ∷ false ∷ []) }
+    ensures holds_second { let w = reached (plain_job three_alone) one_runs in (map (w.workers 2).mem (below 3) ≡ false ∷ false ∷ true ∷ [])
+        × (map (holds w.sched 2) (below 3) ≡ false ∷ false ∷ true ∷ []) }
+    ensures not_while_under_way { let w = reached (plain_job three_alone) (one_runs ++ Finish 1 0 ∷ []) in ((w.workers 1).mem 0 ≡ true)
+        × (holds w.sched 1 0 ≡ false) }
 {}
 
 /// While the client waits, something moves.
