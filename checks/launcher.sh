@@ -9,21 +9,21 @@ check 'status of --help' "$?" 0
 check 'help is --help' "$(./dask help 2>/dev/null)" "$help"
 check 'no words at all are --help' "$(./dask 2>/dev/null)" "$help"
 check 'nothing on standard error' "$(./dask --help 2>&1 >/dev/null)" ''
-for word in run plain sim gen --workers --threads --memory --saturation --script --transport --report --spill-folder --progress --help --version --build; do
-  check "--help names $word" "$(grep -c "^  ${word}[ ,]" <<< "$help")" 1
+for word in run plain sim gen --workers --threads --memory --saturation --allowed-failures --script --transport --report --spill-folder --progress --help --version --build; do
+  check "--help names $word" "$(grep -cE "^  $word([ ,]|\$)" <<< "$help")" 1
 done
 # the help of one command has its options, and no other's
 while read -r command words; do
   for place in '' 'job.txt --memory 1'; do
     # shellcheck disable=SC2086
-    check "the words of $command $place --help" "$(./dask $command $place --help 2>/dev/null | grep -oE '^  (--)?[a-z]+' | xargs)" "$command${words:+ $words}"
+    check "the words of $command $place --help" "$(./dask $command $place --help 2>/dev/null | grep -oE '^  (--)?[a-z-]+' | xargs)" "$command${words:+ $words}"
   done
   ./dask "$command" --help > /dev/null 2>&1
   check "status of $command --help" "$?" 0
 done << 'OPTIONS'
-run --workers --threads --saturation --script --memory --transport --report
+run --workers --threads --saturation --allowed-failures --script --memory --transport --report
 plain
-sim --workers --threads --saturation --script
+sim --workers --threads --saturation --allowed-failures --script
 gen --workers --threads
 OPTIONS
 for words in '' --help 'run --help'; do

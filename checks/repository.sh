@@ -26,6 +26,9 @@ hold 'README.md has more than 6144 bytes' '[ "$(wc -c < README.md)" -le 6144 ]'
 while IFS=' ' read -r word path; do
   hold "docs/RULES.md: $path does not have the word $word" 'grep -qwF -- "$word" "docs/$path"'
 done < <(grep -oE '\[`[^`]+`\]\([^)]+\.(rt|antt)\)' docs/RULES.md | sed -E 's/^\[`([^`]+)`\]\(([^)]+)\)$/\1 \2/')
+for file in $(git ls-files 'crates/*/src/*.rt'); do
+  hold "$file does not begin with //!" '[ "$(head -c 4 "$file")" = "//! " ]'
+done
 for file in $(git ls-files '*.rt' '*.antt' '*.md'); do
   hold "$file has more than 800 lines" '[ "$(wc -l < "$file")" -le 800 ]'
 done

@@ -29,7 +29,7 @@ JOB
 "$program" plain job.txt > lines
 check 'status of the evaluation in the calling thread' "$?" 0
 mv s.npy wanted.npy
-for options in '' '--script lose:1@40' '--script suspect:2@40,join@80' '--script join@0,lose:1@1,suspect:2@60,join@60,lose:3@120' \
+for options in '' '--script lose:1@40' '--script suspect:2@40,join@80 --allowed-failures 1' '--script join@0,lose:1@1,suspect:2@60,join@60,lose:3@120' \
   '--workers 2 --threads 1 --script lose:2@100,join@200' '--memory 100000 --script lose:4@150,join@150' \
   '--workers 1 --script join@1,lose:1@2,join@3,lose:2@4,join@5,lose:3@6'; do
   for _ in 1 2 3 4 5; do

@@ -70,6 +70,19 @@ check 'line of a script that takes the only worker' "$line" 'dask: words'
 
 folder=$(mktemp -d)
 root=$PWD
+# a worker leaves while a task is assigned to it: once more than is allowed, and as often
+printf 'let a = ramp((1), 0, 1, (1))\nlet b = a + 1\nsave b "b.npy"\n' > "$folder/job.txt"
+for number in 0 7 18446744073709551615; do
+  line=$(cd "$folder" && "$root/dask" sim job.txt "$number" --workers 2 --threads 1 --script suspect:1@1 --allowed-failures 0 2>&1)
+  check "status of a task whose worker may not leave, by $number" "$?" 11
+  check "line of a task whose worker may not leave, by $number" "$line" 'dask: killed worker: key 1 losses 1'
+  check "what is left then, by $number" "$(ls "$folder")" job.txt
+  (cd "$folder" && "$root/dask" sim job.txt "$number" --workers 2 --threads 1 --script suspect:1@1 --allowed-failures 1 > /dev/null)
+  check "status of a task whose worker may leave once, by $number" "$?" 0
+  check "data of a task whose worker may leave once, by $number" "$(tail -c 8 "$folder/b.npy" | od -An -v -t d8 | tr -d ' ')" 1
+  rm -f "$folder/b.npy"
+done
+
 # a job of 19,115 tasks: the sum of 0 to 8191 is 8192 * 8191 / 2
 printf 'let s = sum(ramp((8192), 0, 1, (1)))\nsave s "s.npy"\n' > "$folder/job.txt"
 lines=$(cd "$folder" && "$root/dask" sim job.txt 1 --workers 4)
@@ -127,5 +140,15 @@ for command in 'run job.txt' 'plain job.txt' 'sim job.txt 7'; do
 done
 check 'the report of sim and of gen' "$(sed '1d;$d' "$folder/lines")" "$(sed 1d <<< "$lines")"
 rm -rf "$folder"
+
+# random simulations, most of them with a bound on losses, beside the model of tools/
+if /usr/bin/python3 -c 'import numpy' 2> /dev/null; then
+  lines=$(/usr/bin/python3 tools/random_simulations.py ./dask 100 1)
+  check 'status of 100 random simulations' "$?" 0
+  check 'last line of 100 random simulations' "$(tail -1 <<< "$lines" | cut -d ' ' -f 1-4)" '100 equal, 0 differ'
+  [ "$failed" = 0 ] || echo "$lines"
+else
+  echo 'simulation: the random ones are left out, since NumPy is not here (Debian: apt-get install python3-numpy)'
+fi
 
 summary

@@ -36,6 +36,12 @@ def who_has_text(rows):
     return ','.join(f'{key}={holders_text(holders)}' for key, holders in rows) or '-'
 
 
+def read_bounded(word):
+    """A number, and what losses are allowed, which stand behind a slash where they are bounded."""
+    number, slash, most = word.partition('/')
+    return int(number), int(most) if slash else None
+
+
 # How each kind of message writes its fields, and reads them.
 FIELDS = {
     'compute-task': (int, int, read_who_has),
@@ -182,9 +188,10 @@ class Scheduler(Keeping):
         ('on threads', 'tasks occupancy full'),
     ]
 
-    def __init__(self, graph, clients, saturation):
-        self.graph, self.clients, self.saturation = graph, clients, saturation
-        self.want, self.has, self.on, self.steal, self.bad = set(), {}, {}, {}, set()
+    def __init__(self, graph, clients, saturation, allowed=None):
+        """`allowed` is how often a key's worker may leave while the key is assigned to it, or none where that is not bounded."""
+        self.graph, self.clients, self.saturation, self.allowed = graph, clients, saturation, allowed
+        self.want, self.has, self.on, self.steal, self.bad, self.losses = set(), {}, {}, {}, set(), {}
         self.threads, self.sent, self.fence = {}, {}, {}
         self.last, self.counter, self.finishes = 0, 1, 0
 
@@ -296,6 +303,9 @@ class Scheduler(Keeping):
             return self.next_drop() is not None
         if name == 'leave':
             return fields[0] in self.threads
+        if name == 'replicate':
+            key, worker = fields
+            return key in self.graph.keys and self.held(key) and worker in self.threads and (worker, key) not in self.has
         of_client = name in ('want', 'release', 'missing')
         known = fields[0] in (range(1, self.clients + 1) if of_client else self.threads)
         named = fields[1 if of_client else 2]
@@ -342,6 +352,15 @@ class Scheduler(Keeping):
         for key in self.tasks(worker):
             del self.on[key]
             self.steal.pop(key, None)
+            self.losses[key] = self.lost(key) + 1
+            if self.is_killed(key):
+                self.bad.add(key)
+
+    def lost(self, key):
+        return self.losses.get(key, 0)
+
+    def is_killed(self, key):
+        return self.allowed is not None and self.allowed < self.lost(key)
 
     def ends(self, worker, key, attempt):
         if self.on.get(key) != (worker, attempt):
@@ -405,12 +424,16 @@ class Scheduler(Keeping):
         del self.has[holder, key]
         self.answers.append((holder, ('remove-replicas', [key])))
 
+    def on_replicate(self, key, worker):
+        self.answers.append((worker, ('acquire-replicas', key)))
+
     def give(self, key, worker):
         self.on[key] = (worker, self.draw())
         self.given.add(key)
 
     def settle(self):
         self.bad = {key for key in self.bad if self.known(key)}
+        self.losses = {key: count for key, count in self.losses.items() if self.known(key)}
         unneeded = {key for key in self.graph.keys if not self.need(key)}
         for worker, key in [pair for pair in self.has if pair[1] in unneeded]:
             del self.has[worker, key]
@@ -436,9 +459,7 @@ class Scheduler(Keeping):
             for key in sorted(self.given):
                 if self.on.get(key, (0, 0))[0] == worker:
                     own.append(('compute-task', key, self.on[key][1], self.who_has(self.graph.deps[key])))
-            for answered, answer in self.answers:
-                if answered == worker:
-                    own.append(answer if isinstance(answer, tuple) else ('refresh-who-has', self.who_has([answer])))
+            own += [self.answer_message(answer) for answered, answer in self.answers if answered == worker]
             for message in own:
                 self.sent[worker] += 1
                 if message[0] in ('free-keys', 'remove-replicas'):
@@ -446,6 +467,12 @@ class Scheduler(Keeping):
                         self.fence[worker, key] = self.sent[worker]
                 messages.append((worker, message))
         return messages
+
+    def answer_message(self, answer):
+        """A key is answered with its holders."""
+        if not isinstance(answer, tuple):
+            return 'refresh-who-has', self.who_has([answer])
+        return ('acquire-replicas', self.who_has([answer[1]])) if answer[0] == 'acquire-replicas' else answer
 
     def client_messages(self, held, erred):
         messages = []

@@ -20,7 +20,7 @@ REFUSED = [
     "gen --workers 7", "gen 7 --workers=", "gen 7 --workers 0", "gen 7 --workers 65 --threads 1", "gen 7 --workers 33", "gen 7 --workers 64",
     "gen 7 --threads 0", "gen 7 --threads 17 --workers 1", "gen 7 --threads 16 --workers 5", "gen 7 --workers 2 --workers 2", "gen 7 --threads 2 --threads=2",
     "gen 7 --worker 2", "gen 7 --saturation 11", "gen 7 --script join@1", "gen 7 --report", "gen 7 --transport inproc", "gen --help", "gen 7 -h", "gen -- --workers",
-    "gen 7 -- 8",
+    "gen 7 -- 8", "gen 7 --allowed-failures 1",
 ]
 
 

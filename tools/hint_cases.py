@@ -21,6 +21,8 @@ WORDS = [  # words, and the line below `dask: words`
     ('run job.txt --workers 64', '64 workers of 2 threads are more than 64 threads together'),
     ('run job.txt --workers 65', '--workers is a number from 1 to 64, and 65 is not'),
     ('run job.txt --threads 2 --threads 2', '--threads is written twice'),
+    ('run job.txt --allowed-failures 1001', '--allowed-failures is a number from 0 to 1000, and 1001 is not'),
+    ('gen 7 --allowed-failures 1', 'gen has no option --allowed-failures; it has --workers, --threads'),
     ('run job.txt --report=yes', '--report takes no value'),
     ('run job.txt --transport tcp', 'the one --transport that there is so far is inproc'),
     ('plain job.txt --workers 2', 'plain has no option --workers; it has none'),
@@ -94,6 +96,11 @@ FILES = [  # the files of a job, the status, and the line below the program's ow
     ({'job.txt': INPUT + 'save a "/proc/b.npy"'}, 6, '/proc/b.npy can not be made: nothing may be written in /proc'),
 ]
 
+KILLED = [  # words that end with 11, and the line below the program's own
+    ('sim job.txt 7 --workers 2 --threads 1 --allowed-failures 0 --script suspect:1@1',
+     'with --allowed-failures 1, as often as the script takes a worker away, or without it, no task is killed'),
+]
+
 
 def head(descr, shape):
     text = f"{{'descr': '{descr}', 'fortran_order': False, 'shape': {shape}, }}"
@@ -155,6 +162,9 @@ def main(launcher):
             for name, text in files.items():
                 cases.write(name, text.encode())
             cases.check(files, ['run', 'job.txt'], status, hint.format(folder=folder))
+        cases.write('job.txt', b'let a = ramp((1), 0, 1, (1))\nlet b = a + 1\nsave b "b.npy"\n')
+        for words, hint in KILLED:
+            cases.check(words, words.split(), 11, hint)
     print(f'equal {cases.equal} different {cases.different}')
     return cases.different > 0
 

@@ -16,9 +16,9 @@ import job_text  # noqa: E402
 COMMANDS = {'run': 1, 'plain': 1, 'sim': 2, 'gen': 1}  # and how many words behind them are no options
 NUMBERED = ('sim', 'gen')
 BOTH = ('--workers', '--threads')
-OPTIONS = {'run': (*BOTH, '--memory', '--saturation', '--script', '--transport', '--report'), 'plain': (),
-           'sim': (*BOTH, '--saturation', '--script'), 'gen': BOTH}
-RANGES = {'--workers': (1, 64), '--threads': (1, 16), '--memory': (1, 2**40), '--saturation': (1, 1000)}
+OPTIONS = {'run': (*BOTH, '--memory', '--saturation', '--allowed-failures', '--script', '--transport', '--report'), 'plain': (),
+           'sim': (*BOTH, '--saturation', '--allowed-failures', '--script'), 'gen': BOTH}
+RANGES = {'--workers': (1, 64), '--threads': (1, 16), '--memory': (1, 2**40), '--saturation': (1, 1000), '--allowed-failures': (0, 1000)}
 UNITS = {unit: 1000**power for power, unit in enumerate(('', 'k', 'm', 'g', 't'))}
 
 
@@ -174,6 +174,15 @@ def of_writing(_, words):
     return 'a disk is full, a limit on the size of files is reached (`ulimit -f`), or standard output can not be written'
 
 
+def of_killed(_, words):
+    """Status 11: what would have been allowed."""
+    said = Words(words).options
+    removed = len(re.findall('(?:lose|suspect):', said.get('--script', '')))
+    if removed <= int(said['--allowed-failures']):
+        return 'workers ended by themselves, since an opening or a read failed'
+    return f'with --allowed-failures {removed}, as often as the script takes a worker away, or without it, no task is killed'
+
+
 def may_be_made(name, folder):
     """Whether a file can be made beside one, or what stands there, which is no file, can be written."""
     if os.path.exists(name) and not os.path.isfile(name):
@@ -190,8 +199,8 @@ def of(status, line, words):
     try:
         if status == '1':
             return of_words(words)
-        return {'2': of_job, '3': of_file, '5': of_reading, '6': of_writing}[status](line, words)
-    except (OSError, TypeError, ValueError, RecursionError, job_text.Refused):
+        return {'2': of_job, '3': of_file, '5': of_reading, '6': of_writing, '11': of_killed}[status](line, words)
+    except (OSError, KeyError, TypeError, ValueError, RecursionError, job_text.Refused):
         return None
 
 

@@ -51,7 +51,7 @@ class Line:
         self.text = text
         kind, *numbers = text.split()[:5]
         self.workers, self.threads, self.capacity = map(int, numbers[1:])
-        self.saturation, self.wanted, self.script, zero, times = 11, [], [], None, 1
+        self.saturation, self.allowed, self.wanted, self.script, zero, times = 11, None, [], [], None, 1
         self.spoiled = False
         # a worker without feeds, one whose feeds fail, and one whose feeds find no memory; 0 is none
         self.faulty = {"short": 0, "fail": 0, "hungry": 0}
@@ -63,6 +63,8 @@ class Line:
                 self.wanted.append(int(rest))
             elif name == "saturation":
                 self.saturation = int(rest)
+            elif name == "allowed":
+                self.allowed = int(rest)
             elif name == "work":
                 times = int(rest)
             elif name in self.faulty:
@@ -120,7 +122,7 @@ FREE = ("see-loss", "deliver-up", "deliver-from-client")
 class Replay:
     def __init__(self, line, printed):
         self.line, self.printed = line, printed
-        self.world = World(line.graph, 1, line.saturation, line.job.values)
+        self.world = World(line.graph, 1, line.saturation, line.job.values, allowed=line.allowed)
         self.taken, self.last, self.made = [], 0, 0
         self.let_go = set()
 
@@ -239,11 +241,24 @@ class Replay:
                 causes.add("memory")
         return causes
 
+    def reads_failed(self):
+        """Whether a feed failed, or a worker had none."""
+        failed = any("feed" in self.faults(worker) for worker in self.world.workers)
+        return failed or 1 <= self.line.faulty["short"] <= self.line.numbers
+
     def given_up(self):
         """What is told where no worker is left: a read fault where none left for want of memory, and a feed failed or a worker had none."""
-        failed = any("feed" in self.faults(worker) for worker in self.world.workers)
-        short = 1 <= self.line.faulty["short"] <= self.line.numbers
-        return "read fault" if (failed or short) and "memory" not in self.printed.left.values() else "no memory"
+        return "read fault" if self.reads_failed() and "memory" not in self.printed.left.values() else "no memory"
+
+    def failed_by(self, blame):
+        """What is told of the key to blame: that it met a zero divisor, or was killed, where none left for want of memory, and the script takes
+        workers away as often, or a feed failed or a worker had none."""
+        sched = self.world.sched
+        if not sched.is_killed(blame):
+            return f"zero divisor at {blame}"
+        losses, taken = sched.lost(blame), sum(what != "join" for what, *_ in self.line.script)
+        there = (losses <= taken or self.reads_failed()) and "memory" not in self.printed.left.values()
+        return f"killed: {blame} {losses}" if there else "no memory"
 
     def ends(self):
         """The blocks of the wanted keys, each of which is got or was let go since, the key to blame, or that no worker is left."""
@@ -252,7 +267,7 @@ class Replay:
         if all(key in client.got or key in self.let_go for key in self.line.wanted):
             ends = [f"key {key} is {self.line.job.values[key]}" for key in self.line.wanted]
         elif failed:
-            ends = [f"zero divisor at {failed[0]}"]
+            ends = [self.failed_by(failed[0])]
         elif self.world.workers.keys() == self.gone():
             ends = [self.given_up()]
         else:
@@ -393,6 +408,8 @@ def line_by_chance(pick, most):
         words += [f"want:{pick.randrange(keys)}" for _ in range(pick.randint(1, 4))]
     if pick.random() < 0.3:
         words.append(f"saturation:{pick.choice([1, 5, 10, 20, 30, 100, 1000])}")
+    if pick.random() < 0.3:
+        words.append(f"allowed:{pick.choice([0, 0, 1, 2, 5])}")
     if pick.random() < 0.7:
         words.append(f"work:{pick.choice([1, 2, 100, 4096, 4096, 4096, 100000])}")
     if pick.random() < 0.5:

@@ -6,12 +6,14 @@
 Each job is evaluated by `plain`, and run by `run` with random workers, threads, saturation and a script of losses, suspicions
 and joins, about half of them with so little memory that workers put blocks on disk. Status, lines but the last, and saved bytes
 have to be equal, and the audit of each run agrees. Where a divisor is 0, another block may be named, and of the saved files, each of
-which is there once it is whole, others may be there. A run that takes a minute counts as one that hangs. It prints a line for each
-difference, and the numbers of runs that are equal, that differ, that divide by 0, and that had little memory.
+which is there once it is whole, others may be there. A run whose script takes workers away more often than it allows may end since a
+worker was lost once more than that. A run that takes a minute counts as one that hangs. It prints a line for each difference, and the
+numbers of runs that are equal, that differ, that divide by 0, that had little memory, and that ended for lost workers.
 """
 import concurrent.futures
 import os
 import random
+import re
 import subprocess
 import sys
 import tempfile
@@ -46,6 +48,8 @@ def words(draw):
     if draw.random() < 0.5:
         options += ['--memory', str(draw.choice((1, 8, 64, 100, 500, 4000)))]
     items = script(draw, workers, threads)
+    if draw.random() < 0.3:
+        options += ['--allowed-failures', str(draw.randint(0, 3))]
     return options + (['--script', items] if items else [])
 
 
@@ -68,17 +72,25 @@ def answer(program, folder, command):
     return done.returncode, lines[:-1], done.stderr, files
 
 
-def is_equal(plain, run):
+def may_kill(options, line):
+    """Whether a run by these words may end with this line, for lost workers."""
+    said = dict(zip(options[::2], options[1::2]))
+    allowed = int(said.get('--allowed-failures', 1000))
+    return (len(re.findall('lose|suspect', said.get('--script', ''))) > allowed
+            and re.fullmatch(f'dask: killed worker: key [0-9]+ losses {allowed + 1}\n', line) is not None)
+
+
+def is_equal(plain, run, options):
     if run is None:
         return False
-    if plain[0] == 4:
-        return (run[0] == 4 and run[2].startswith('dask: zero division: node ')
+    if run[0] in (4, 11):
+        return ((run[0] == plain[0] and run[2].startswith('dask: zero division: node ') if run[0] == 4 else may_kill(options, run[2]))
                 and all(plain[3].get(name, held) == held for name, held in run[3].items()))
     return plain == run
 
 
 def one(program, seed):
-    """What differs, if something does, the status, and whether the run had little memory."""
+    """What differs, if something does, the status, whether the run had little memory, and whether it ended for lost workers."""
     draw = random.Random(seed)
     with tempfile.TemporaryDirectory() as folder:
         text = write_random(folder, draw)
@@ -88,9 +100,9 @@ def one(program, seed):
         plain = answer(program, folder, ['plain', 'job.txt'])
         run = answer(program, folder, ['run', 'job.txt', *options])
     differs = None
-    if not is_equal(plain, run):
+    if not is_equal(plain, run, options):
         differs = f'seed {seed}: run {" ".join(options)}: {"hangs" if run is None else run[:3]}, plain {plain[:3]}\n{text}'
-    return differs, plain[0], '--memory' in options
+    return differs, plain[0], '--memory' in options, run is not None and run[0] == 11
 
 
 def main(program, count='1000', seed='1'):
@@ -98,11 +110,11 @@ def main(program, count='1000', seed='1'):
     first = int(seed) * 1_000_000
     with concurrent.futures.ThreadPoolExecutor(os.cpu_count()) as pool:
         ends = list(pool.map(lambda at: one(program, at), range(first, first + int(count))))
-    differ = [text for text, _, _ in ends if text]
+    differ = [text for text, _, _, _ in ends if text]
     for text in differ:
         print(text)
-    zero, little = sum(status == 4 for _, status, _ in ends), sum(little for _, _, little in ends)
-    print(f'{len(ends) - len(differ)} equal, {len(differ)} differ ({zero} with a divisor of 0, {little} with little memory)')
+    zero, little, killed = sum(end[1] == 4 for end in ends), sum(end[2] for end in ends), sum(end[3] for end in ends)
+    print(f'{len(ends) - len(differ)} equal, {len(differ)} differ ({zero} with a divisor of 0, {little} with little memory, {killed} for lost workers)')
     return 1 if differ else 0
 
 

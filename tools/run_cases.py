@@ -54,6 +54,12 @@ ACCEPTED = [
     # as many finishes as an item can wait for
     f'--script lose:1@{2**128 - 2}',
     '--script lose:004@0000000000000000000000000000000000000000000000000000000000000001',
+    # losses that are allowed: at least as many as the script takes workers away
+    '--allowed-failures 0',
+    '--allowed-failures 0 --script join@2',
+    '--allowed-failures 1000 --script lose:1@1',
+    '--workers 3 --allowed-failures=002 --script lose:1@1,join@2,suspect:3@3',
+    '--script lose:1@0,suspect:2@0,lose:3@0 --allowed-failures 3',
     # a value behind a sign of equality, and the end of the options
     '--workers=3',
     '--workers=007 --threads 2',
@@ -118,6 +124,15 @@ REFUSED = [
     '--threads 17 --workers 1',
     '--saturation 0',
     '--saturation 1001',
+    '--allowed-failures',
+    '--allowed-failures=',
+    '--allowed-failures 1001',
+    '--allowed-failures -1',
+    '--allowed-failures 1.0',
+    '--allowed-failures none',
+    f'--allowed-failures {2**128 + 1}',
+    '--allowed-failures 1 --allowed-failures 1',
+    '--allowed-failure 1',
     # more than 64 threads
     '--workers 33',
     '--threads 16 --workers 5',
@@ -189,7 +204,8 @@ def words():
         say(f'top o.npy {run_of(options)}', 'top:' + refusal(1, 'words'))
     for other in ('run --workers 2', 'run --workers', 'run --workers --threads 1', 'run --help', 'run --job.txt', 'run -job.txt', 'run help job.txt',
                   'plain job.txt --workers 2', 'plain job.txt --report', 'plain --help', 'plain -job.txt', 'sim job.txt 7 --transport inproc',
-                  'sim job.txt 7 --report', 'sim job.txt --workers 2', 'sim --help', 'plain job.txt --memory 5', 'sim job.txt 7 --memory 5'):
+                  'sim job.txt 7 --report', 'sim job.txt --workers 2', 'sim --help', 'plain job.txt --memory 5', 'sim job.txt 7 --memory 5',
+                  'plain job.txt --allowed-failures 1'):
         say('site 4096 0')
         say(f'top o.npy {other}', 'top:' + refusal(1, 'words'))
     # nothing is opened or created then
@@ -342,6 +358,39 @@ def losses():
             say(f'saved o.npy {run_of(options)}', f'saved: 0 o.npy {held}')
 
 
+def killed():
+    title('runs in which a worker leaves more often than is allowed')
+    lines = 'let a = ramp((1), 0, 1, (1))|let b = a + 1|save b "o.npy"|'
+    job(lines)
+    begun, done = text(saved([0])), told(0, lines_of('run', ('o.npy', np.array([1]))), '', '0 0 0 0', 'o.npy', text(saved([1])))
+    thrice = 'suspect:1@1,suspect:2@1,suspect:3@1'
+    # once the first key's finish counted, the next thing that the scheduler does is to suspect its worker, or to see its loss
+    for workers, script, allowed, answer in ((2, 'suspect:1@1', 0, (1, 1)), (2, 'suspect:1@1', 1, None), (2, 'lose:1@1', 0, (1, 1)), (2, 'lose:1@1', 1, None),
+                                             (4, thrice, 1, (0, 2)), (4, thrice, 2, None)):
+        say('site 4096 0')
+        often('o.npy', f'run job.txt --workers {workers} --threads 1 --script {script} --allowed-failures {allowed}',
+              told(11, '', 'dask: killed worker: key {} losses {}|'.format(*answer), '0 0 0 0', 'o.npy', begun) if answer else done)
+    # standard error fails
+    say('site 4096 0')
+    fail('err', 'none.npy', 'run job.txt --workers 2 --threads 1 --script suspect:1@1 --allowed-failures 0', (11, '', '', '0 0 0 1', 'none'),
+         (11, '', 'dask: killed worker: key 1 losses 1|', '0 0 0 0', 'none'))
+    title('a worker leaves since a read failed: once more than is allowed, as often, and until none is left')
+    job(ONE_CELL)
+    for workers, feeds, allowed, answer in ((2, 1, 0, (11, 'killed worker: key 0 losses 1')), (3, 2, 1, (11, 'killed worker: key 0 losses 2')),
+                                            (2, 2, 2, (5, 'read fault'))):
+        status, line = answer
+        say('site 4096 0 ' + at_feeds('read', range(feeds)))
+        say(f'top o.npy run job.txt --workers {workers} --threads 1 --allowed-failures {allowed}',
+            'top:' + told(status, '', f'dask: {line}|', f'{feeds} 0 0 0', 'o.npy', begun))
+    say('site 4096 0 ' + at_feeds('read', [0]))
+    say('saved o.npy run job.txt --workers 2 --threads 1 --allowed-failures 1', 'saved: 0 o.npy ' + text(saved(ARRAYS['one.npy'] + 1)))
+    title('a zero divisor is told where losses are bounded, too')
+    job(INPUT['a'] + 'let b = a // (a - 2)|save b "o.npy"|')
+    for command in ('run job.txt --allowed-failures 0', 'sim job.txt 7 --allowed-failures 0'):
+        say('site 4096 0')
+        say(f'top none.npy {command}', 'top:' + told(4, '', 'dask: zero division: node 3 block (0)|', '0 0 0 0', 'none.npy', 'none'))
+
+
 def disks():
     title('runs by threads that put blocks on disks')
     job(PAIR)
@@ -419,3 +468,23 @@ def each_in_turn():
         fail('err', 'none.npy', command, *fronts, (4, '', line, '0 0 0 0', 'none'))
         say('site 4096 0 err:0')
         partly(4, 'o.npy', np.zeros(1), command)
+
+
+# the sum of an array of 4 blocks and its transpose, by columns: 4 tasks each for the array, its transpose, the sum of both and the
+# partial sums, and 2 that join these, with 4, 8, 4 and 4 dependencies
+JOINED = 'let a = ramp((1024, 1024), 0, 1, (512, 512))|let s = sum(a + a.T, axis=(0))|save s "s.npy"|'
+
+
+def noted():
+    title('runs whose started and ended tasks are counted, against their report')
+    say('site 4096 0')
+    job(JOINED)
+    for workers, losses, options in ((2, 0, '--workers 2 --threads 2 --report'), (2, 0, '--workers=2 --threads=2 --report'),
+                                     (1, 0, '--report --threads 1 --workers 1'), (3, 1, '--workers 2 --script lose:1@3,join@4 --report'),
+                                     (4, 0, '--report'), (8, 0, '--workers 8 --threads 8 --report --saturation 1000'),
+                                     (5, 2, '--workers 3 --threads 1 --report --script suspect:2@0,join@0,join@1,lose:4@6'), (2, None, '--workers 2')):
+        counted = [] if losses is None else ['each key was started: true', 'each start has its end: true', 'workers started what their lines say: true']
+        report = [] if losses is None else ['keys 18', 'edges 20', f'losses {losses}']
+        say(f'noted {workers} s.npy run job.txt {options}', 'noted: 0', 'saved s.npy (1024,)', *report, 'finished by: cluster', 'audit: agrees', *counted,
+            'the file is that of plain: true')
+    say('noted 0 s.npy run job.txt --report --report', 'noted: 1', 'the file is that of plain: false')

@@ -92,17 +92,17 @@ class Run:
                 array[region(node.layout, index)] = self.values[key]
         return array
 
-    def simulate(self, number, workers=4, threads=2, saturation=11, script=()):
-        """The lines of a simulation but those of files, or the key to blame, or nothing where nothing moves."""
+    def simulate(self, number, workers=4, threads=2, saturation=11, script=(), allowed=None):
+        """The lines of a simulation but those of files, or the key to blame, with its losses where it was killed, or nothing where nothing moves."""
         tasks = self.lowered.tasks
         graph = Graph(self.lowered.deps, [task.work for task in tasks], [task.bytes for task in tasks])
-        world = World(graph, 1, saturation, self.values)
+        world = World(graph, 1, saturation, self.values, allowed=allowed)
         wanted = [key for keys in self.lowered.saved for key in keys]
         played = Simulation(world, workers, threads, number, wanted, list(script))
         if not played.play():
             return None
         if played.end() != 'all':
-            return played.end()
+            return played.end() if played.killed() is None else (played.end(), played.killed())
         return '|'.join([*played.report(), f'turns {played.turns}', 'finished by: simulation', ''])
 
 

@@ -72,6 +72,23 @@ CASES = [
     ("shared 16 3 2 1 zero:20", ["zero divisor at 20"]),
     ("shared 16 3 2 1 zero:20 want:0", ["zero divisor at 20"]),
     ("sum 16 2 2 1 zero:37", served("sum", 16)),
+    # The worker with the wanted key leaves once more than is allowed, and as often as is allowed; no key is lost before one is assigned.
+    ("sum 1 2 1 1 suspect:1@1 allowed:0", ["killed: 1 1", *left("s1")]),
+    ("sum 1 2 1 1 lose:1@1 allowed:0", ["killed: 1 1", *left("s1")]),
+    ("sum 1 2 1 1 suspect:1@1 allowed:0 want:0", ["killed: 1 1", *left("s1")]),
+    ("sum 1 2 1 1 suspect:1@1 allowed:1", served("sum", 1, *left("s1"))),
+    ("sum 100 3 2 1 lose:2@5 allowed:1", served("sum", 100, *left("s2"))),
+    ("sum 100 3 1 64 lose:1@0 allowed:0", served("sum", 100, *left("s1"))),
+    ("sum 40 2 1 1 lose:7@0 suspect:0@0 lose:1@5000 allowed:0", served("sum", 40)),
+    # A leaf that is made anew loses two workers, of which one is allowed, and two.
+    ("sum 1 4 1 1 suspect:1@1 suspect:2@1 suspect:3@1 allowed:1", ["killed: 0 2", *left("s1", "s2", "s3")]),
+    ("sum 1 4 1 1 suspect:1@1 suspect:2@1 suspect:3@1 allowed:2", served("sum", 1, *left("s1", "s2", "s3"))),
+    # A worker leaves by itself: since its feed failed, and since it found no memory, which is told then.
+    ("sum 1 2 1 1 fail:1 allowed:0", ["killed: 0 1", *left("f1")]),
+    ("sum 1 2 1 1 hungry:1 allowed:0", ["no memory", *left("m1")]),
+    ("sum 1 2 1 1 fail:1 allowed:1", served("sum", 1, *left("f1"))),
+    # A zero divisor is told where losses are bounded, too.
+    ("sum 16 2 2 1 zero:20 allowed:0", ["zero divisor at 20"]),
     # A worker without feeds, where another goes on.
     ("sum 64 2 2 1 short:1", served("sum", 64, *left("f1"))),
     # No worker is left.

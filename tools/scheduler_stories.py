@@ -7,7 +7,7 @@ writes what each of these stories leads to, with an empty line behind it. Storie
 """
 import sys
 
-from cluster_model import Refused, Scheduler, keys_text, message_text, read_graph, read_keys, read_row
+from cluster_model import Refused, Scheduler, keys_text, message_text, read_bounded, read_graph, read_keys, read_row
 from world_model import read_event, report, report_text
 
 
@@ -30,9 +30,10 @@ def taken(scheduler, event):
 
 
 def phases(scheduler):
-    """Those of all keys, and of a number that is no key."""
-    names = ((key, scheduler.phase(key)) for key in range(len(scheduler.graph.keys) + 1))
-    shown = ' '.join(name + (f' by {scheduler.blame(key)}' if name == 'erred' else '') for key, name in names)
+    """Those of all keys, and of a number that is no key. What hangs on a bad key is blamed on it, wanted or not."""
+    keys = scheduler.graph.keys
+    names = ((key, scheduler.phase(key)) for key in range(len(keys) + 1))
+    shown = ' '.join(name + (f' by {scheduler.blame(key)}' if key in keys and scheduler.erred(key) else '') for key, name in names)
     return f'finishes {scheduler.finishes}: {shown}'
 
 
@@ -52,10 +53,18 @@ def facts(scheduler):
     yield 'drop of {} at {}'.format(*drop) if drop else 'no drop'
 
 
+def losses(scheduler):
+    """Those of all keys, and of a number that is no key."""
+    return ' '.join(['lost', *(str(scheduler.lost(key)) for key in range(len(scheduler.graph.keys) + 1))])
+
+
 def play_scheduler(words, events):
-    scheduler = Scheduler(read_graph(words[2:]), int(words[0]), int(words[1]))
+    scheduler = Scheduler(read_graph(words[2:]), int(words[0]), *read_bounded(words[1]))
     for event in events:
-        yield event, list(facts(scheduler)) if event == 'facts' else [*taken(scheduler, scheduler_event(event.split())), phases(scheduler)]
+        if event == 'losses':
+            yield event, [losses(scheduler)]
+        else:
+            yield event, list(facts(scheduler)) if event == 'facts' else [*taken(scheduler, scheduler_event(event.split())), phases(scheduler)]
 
 
 def is_row(key, work, nbytes, deps):

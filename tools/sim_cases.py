@@ -1,6 +1,6 @@
 """The words of the command `sim`, and what they ask for by the rules of the command: cases of format_table, worked out by hand."""
 
-# Words that ask for a simulation: its number, workers, threads and saturation, and the items of its script.
+# Words that ask for a simulation: its number, workers, threads and saturation, what losses are allowed where that is bounded, and the items of its script.
 ACCEPTED = [
     ("sim j 7", (7, 4, 2, 11)),
     ("sim j 0 --workers 1 --threads 1", (0, 1, 1, 11)),
@@ -10,6 +10,10 @@ ACCEPTED = [
     ("sim j 7 --workers 32", (7, 32, 2, 11)),
     ("sim j 7 --threads 16", (7, 4, 16, 11)),
     ("sim j 7 --saturation 1000", (7, 4, 2, 1000)),
+    ("sim j 7 --allowed-failures 0", (7, 4, 2, 11, "allowed 0")),
+    ("sim j 7 --allowed-failures 1000", (7, 4, 2, 11, "allowed 1000")),
+    ("sim --allowed-failures=03 j 7 --script lose:1@3 --saturation 5", (7, 4, 2, 5, "allowed 3", "lose 1 at 3")),
+    ("sim j 7 --script suspect:2@1,suspect:1@1 --allowed-failures 1", (7, 4, 2, 11, "allowed 1", "suspect 2 at 1", "suspect 1 at 1")),
     ("sim -- --workers 7", (7, 4, 2, 11)),
     ("sim --workers=3 j --threads 1 7 --saturation=5", (7, 3, 1, 5)),
     ("sim j 7 --script=lose:1@3", (7, 4, 2, 11, "lose 1 at 3")),
@@ -33,6 +37,9 @@ REFUSED = [
     "sim j 7 --script kill:1@1", "sim j 7 --script lose:@1", "sim j 7 --script lose:1@", "sim j 7 --script join:1@1",
     "sim j 7 --script suspect:5@0", "sim j 7 --script join@5,lose:5@4", "sim j 7 --script lose:1@1,lose:1@1",
     "sim j 7 --workers 32 --script join@0", "sim j 7 --workers 1 --script lose:1@1",
+    "sim j 7 --allowed-failures 1001", "sim j 7 --allowed-failures -1", "sim j 7 --allowed-failures ", "sim j 7 --allowed-failures x",
+    "sim j 7 --allowed-failures", "sim j 7 --allowed-failures=", "sim j 7 --allowed-failures 1 --allowed-failures 1", "sim j 7 --allowed-failure 1",
+    "sim j 7 --allowed-failures none", "sim j 7 --allowed-failures 18446744073709551616",
 ]
 
 

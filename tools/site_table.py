@@ -514,7 +514,8 @@ def words():
     job(saved_jobs()[0][0])
     for list_of_words in ('', 'run', 'plain', 'runs job.txt', 'run job.txt x', 'Run job.txt', 'sim', 'sim job.txt', 'sim job.txt x',
                           'sim job.txt 7 --workers', 'sim job.txt 7 --workers 1 --script lose:1@1', 'sim job.txt 7 --workers 65', 'gen', 'gen x', 'gen job.txt 7',
-                          'gen 7 --workers 65', 'gen 7 --saturation 11', 'gen 7 --script join@1', 'gen 18446744073709551616', 'gen --help'):
+                          'gen 7 --workers 65', 'gen 7 --saturation 11', 'gen 7 --allowed-failures 1', 'sim job.txt 7 --allowed-failures 1001',
+                          'gen 7 --script join@1', 'gen 18446744073709551616', 'gen --help'):
         say('site 4096 0')
         say(f'top o.npy {list_of_words}', 'top:' + refusal(1, 'words'))
     say('serial o.npy plain', 'serial:' + told(1, '', 'dask: words|dask: words|', '0 0 0 0', 'o.npy', 'none'))
@@ -677,6 +678,36 @@ def simulations():
     say('site 4096 40')
     fronts = [(6, lines[:k], 'dask: write fault|', '0 0 1 0', 'whole') for k in range(0, len(lines), 40)]
     fail('out', 'o.npy', command, *fronts, done)
+
+
+def killed_line(key, losses):
+    return f'killed worker: key {key} losses {losses}'
+
+
+def killed():
+    title('simulations in which a worker leaves more often than is allowed')
+    job(ONE_RAMP)
+    say('site 4096 0')
+    run = model(ONE_RAMP)
+    done = text(saved(run.array(0)))
+    thrice = [('suspect', worker, 1) for worker in (1, 2, 3)]
+    for number in (0, 7, 2**64 - 1):
+        for script, options, workers, allowed, answer in (
+                ([('suspect', 1, 1)], 'suspect:1@1', 2, 0, (1, 1)), ([('suspect', 1, 1)], 'suspect:1@1', 2, 1, None),
+                ([('lose', 1, 1)], 'lose:1@1', 2, 0, (1, 1)), (thrice, 'suspect:1@1,suspect:2@1,suspect:3@1', 4, 1, (0, 2)),
+                (thrice, 'suspect:1@1,suspect:2@1,suspect:3@1', 4, 2, None)):
+            command = f'sim job.txt {number} --workers {workers} --threads 1 --script {options} --allowed-failures {allowed}'
+            setting = {'workers': workers, 'threads': 1, 'script': script, 'allowed': allowed}
+            if answer:
+                assert run.simulate(number, **setting) == answer
+                often('o.npy', command, refusal(11, killed_line(*answer)))
+            else:
+                often('o.npy', command, told(0, sim_lines(run, ['o.npy'], number, **setting), '', '0 0 0 0', 'o.npy', done))
+    title('no file is created where a key is killed, which only the words bound')
+    for kind, count in (('open', 1), ('create', 0)):
+        first = [STOPPED] if kind == 'open' else []
+        fail(kind, 'o.npy', 'sim job.txt 7 --workers 2 --threads 1 --script suspect:1@1 --allowed-failures 0', *first,
+             (11, '', f'dask: {killed_line(1, 1)}|', '0 0 0 0', 'none'), count=count)
 
 
 # ---- the jobs that numbers make
@@ -869,7 +900,7 @@ def main():
     shelve('short.npy', saved(A)[:-1])
     shelve('front.npy', saved(A)[:4])
     shelve('text.npy', b'nothing')
-    for part in (pieces, creations, room, alone, objects, lengths, spills, real, real_spills, heads, types, blocks, saves, divided, refusals, large, words, run_cases.words, run_cases.reports, faults, run_cases.faults, places, reports, simulations, numbers, folds, by_chance):
+    for part in (pieces, creations, room, alone, objects, lengths, spills, real, real_spills, heads, types, blocks, saves, divided, refusals, large, words, run_cases.words, run_cases.reports, faults, run_cases.faults, places, reports, simulations, killed, run_cases.killed, run_cases.noted, numbers, folds, by_chance):
         part()
     here = os.path.join(os.path.dirname(os.path.abspath(__file__)), '..', 'crates', 'site_table')
     for name, lines in (('stdin', LINES), ('stdout', WANTED)):

@@ -45,7 +45,7 @@ fi
 line=$(cat <&9)
 [ -z "$line" ] || printf '%s\n' "$line" >&2
 case $status in
-  1 | 2 | 3 | 5 | 6) ! command -v python3 > /dev/null || python3 "$root/tools/hints.py" "$status" "$line" "$@" >&2 ;;
+  1 | 2 | 3 | 5 | 6 | 11) ! command -v python3 > /dev/null || python3 "$root/tools/hints.py" "$status" "$line" "$@" >&2 ;;
 esac
 if [ "$status" -gt 128 ]; then
   # what the ended program left beside saved files and in the folder for blocks goes, and this ends as it did

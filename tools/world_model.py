@@ -27,10 +27,10 @@ class World:
     # workers come before clients where both ask
     ORDER = {'worker': 0, 'client': 1}
 
-    def __init__(self, graph, clients, saturation, values, fails=False):
+    def __init__(self, graph, clients, saturation, values, fails=False, allowed=None):
         """A key's value is none where it meets a zero divisor. With `fails` the first key without dependencies that ends stops the world."""
         self.graph, self.count, self.values, self.fails = graph, clients, values, fails
-        self.sched = Scheduler(graph, clients, saturation)
+        self.sched = Scheduler(graph, clients, saturation, allowed)
         self.clients = {c: Client(graph) for c in range(1, clients + 1)}
         self.workers, self.alive, self.spilled = {}, set(), set()
         self.down, self.up = {}, {}
@@ -56,7 +56,7 @@ class World:
         if name in ('want', 'release'):
             client, keys = fields
             return client in self.clients and bool(keys) and all(key in self.graph.keys for key in keys)
-        if name in ('join', 'balance', 'evict'):
+        if name in ('join', 'balance', 'evict', 'replicate'):
             return self.sched.takes(event)
         if name in ('send-gather', 'fail-gather'):
             asker, peer = fields
@@ -217,6 +217,9 @@ class World:
     def on_evict(self):
         self.schedule(('evict',))
 
+    def on_replicate(self, key, worker):
+        self.schedule(('replicate', key, worker))
+
     def on_spill(self, worker, key):
         self.spilled.add((worker, key))
 
@@ -312,6 +315,11 @@ class Simulation:
         if failed:
             return client.failed[failed[0]]
         return 'all' if all(key in client.got for key in self.wanted) else None
+
+    def killed(self):
+        """How often the key that is to blame lost its worker, where that is more often than is allowed."""
+        sched, blame = self.world.sched, self.end()
+        return sched.lost(blame) if blame != 'all' and sched.is_killed(blame) else None
 
     def scripted(self):
         """The next item's event, where it is reached, and the items before it that do nothing go."""

@@ -7,7 +7,7 @@ writes what each of these stories leads to, with an empty line behind it. Storie
 """
 import sys
 
-from cluster_model import FIELDS, Client, Refused, Worker, keys_text, message_of, message_text, read_graph, read_keys
+from cluster_model import FIELDS, Client, Refused, Worker, keys_text, message_of, message_text, read_bounded, read_graph, read_keys
 from world_model import KINDS, Feed, Simulation, Stopped, Words, World, bound, event_text, read_event, report_text
 
 PEERS = [1, 2, 3, 4, 127, 128, 200, 201]
@@ -77,10 +77,11 @@ def values_of(graph, content):
 
 
 def world_of(setting):
-    clients, saturation, content, fails = setting[:4]
+    clients, bounded, content, fails = setting[:4]
     assert fails in ('true', 'false')
     graph = read_graph(setting[4:])
-    return World(graph, int(clients), int(saturation), values_of(graph, int(content)), fails == 'true')
+    saturation, allowed = read_bounded(bounded)
+    return World(graph, int(clients), saturation, values_of(graph, int(content)), fails == 'true', allowed)
 
 
 def taken(world, event):
@@ -121,6 +122,9 @@ def play_world(setting, events):
                 print(event_text(event) + ended)
                 if not ended.endswith('taken'):
                     break
+        elif name == 'losses':
+            print(line)
+            print('  lost ' + ' '.join(str(world.sched.lost(key)) for key in world.graph.keys))
         else:
             print(line + taken(world, read_event(line.split())))
         print_world(world)
@@ -132,10 +136,18 @@ def read_item(word):
     return tuple([*(int(w) if w.isdigit() else w for w in what.split(':')), int(at)])
 
 
+def fault_text(simulation):
+    if simulation.end() == 'all':
+        return ''
+    killed = simulation.killed()
+    return f' blame {simulation.end()}' if killed is None else f' killed {simulation.end()} {killed}'
+
+
 def play_simulation(setting, events):
     assert not events
-    workers, threads, number, script, wanted = setting[:5]
-    world = world_of(['1', '11', *setting[5:]])
+    workers, bounded, number, script, wanted = setting[:5]
+    threads, slash, allowed = bounded.partition('/')
+    world = world_of(['1', '11' + slash + allowed, *setting[5:]])
     items = [] if script == '-' else [read_item(word) for word in script.split(',')]
     wanted = read_keys(wanted)
     if not (wanted and max(wanted) < len(world.graph.keys) and int(workers) <= 64 and 1 <= int(threads) <= 16):
@@ -144,8 +156,7 @@ def play_simulation(setting, events):
     try:
         simulation = Simulation(world, int(workers), int(threads), int(number), wanted, items)
         if simulation.play():
-            end = simulation.end()
-            print(f'turns {simulation.turns}' + ('' if end == 'all' else f' blame {end}'))
+            print(f'turns {simulation.turns}' + fault_text(simulation))
             print(report_text(simulation.report()))
         else:
             print('nothing moves')

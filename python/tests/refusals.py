@@ -157,6 +157,8 @@ def cases():
     yield 'saved twice', ValueError, 'twice', lambda: y.save({'b.npy': a, './b.npy': a})
     yield 'nothing saved', ValueError, 'at least one', lambda: y.save({})
     yield 'workers', ValueError, 'from 1 to 64', lambda: a.compute(workers=65)
+    yield 'allowed failures', ValueError, 'from 0 to 1000', lambda: a.compute(allowed_failures=-1)
+    yield 'allowed failures of another command', TypeError, 'takes no `allowed_failures`', lambda: a.compute(command='plain', allowed_failures=1)
     yield 'threads together', ValueError, 'more than 64 threads', lambda: a.compute(workers=64)
     yield 'an option of another command', TypeError, 'takes no `memory`', lambda: a.compute(command='plain', memory=1)
     yield 'a command', ValueError, "'run', 'plain', 'sim'", lambda: a.compute(command='walk')
@@ -167,6 +169,8 @@ def cases():
     yield 'status 5', FileNotFoundError, 'dask: read fault: it is not there any more', gone.compute
     yield 'status 6', FileNotFoundError, 'dask: write fault: its folder is not there', lambda: a.save('no/folder.npy')
     yield 'status 6 of a folder', OSError, 'dask: write fault', lambda: a.save('.')
+    yield 'status 11', RuntimeError, 'dask: killed worker: key 1 losses 1: take a larger `allowed_failures`', \
+        lambda: (y.ramp((1,), 0, 1, (1,)) + 1).compute(command='sim', workers=2, threads=1, script='suspect:1@1', allowed_failures=0)
     yield 'a program that is killed', RuntimeError, 'ended by SIGKILL, which the system sends', killed
     yield 'status 8', MemoryError, 'dask: out of memory: take smaller chunks', without_memory
     small = y.ramp((20000,), 0, 1, 1)

@@ -83,6 +83,8 @@ def runs(a, made):
     os.remove('r.npy')
     y.save({'r.npy': a}, command='sim', number=7, script='lose:1@1,join@1')
     yield 'report of sim', (y.report()['losses'], y.report()['finished by']), (1, 'simulation')
+    y.save({'r.npy': a}, workers=2, script='suspect:1@1', allowed_failures=1)
+    yield 'losses that are allowed', y.report()['losses'], 1
     y.save({'r.npy': a}, command='plain')
     yield 'report of plain', (y.report()['saved'], y.report()['finished by']), ({'r.npy': (4, 6)}, 'plain')
     computed = a.compute()

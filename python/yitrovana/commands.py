@@ -5,9 +5,9 @@ from operator import index
 
 HERE = os.path.dirname(os.path.abspath(__file__))
 INSTALLED, CLONE = os.path.join(HERE, 'program'), os.path.normpath(os.path.join(HERE, '..', '..', 'dask'))
-OPTIONS = {'run': ('workers', 'threads', 'memory', 'saturation', 'script'), 'plain': (),
-           'sim': ('workers', 'threads', 'saturation', 'script'), 'dask': ('workers', 'threads', 'scheduler', 'timeout')}
-RANGES = {'workers': (1, 64), 'threads': (1, 16), 'memory': (1, 2**40), 'saturation': (1, 1000)}
+OPTIONS = {'run': ('workers', 'threads', 'memory', 'saturation', 'allowed_failures', 'script'), 'plain': (),
+           'sim': ('workers', 'threads', 'saturation', 'allowed_failures', 'script'), 'dask': ('workers', 'threads', 'scheduler', 'timeout')}
+RANGES = {'workers': (1, 64), 'threads': (1, 16), 'memory': (1, 2**40), 'saturation': (1, 1000), 'allowed_failures': (0, 1000)}
 WORKERS, THREADS, TOGETHER = 4, 2, 64  # without the options, and workers times threads
 UNITS = {'': 1, 'B': 1, **{f'{letter}{end}': 1000**power for power, letter in enumerate('KMGT', 1) for end in ('', 'B')},
          **{f'{letter}I{end}': 1024**power for power, letter in enumerate('KMGT', 1) for end in ('', 'B')}}
@@ -61,4 +61,4 @@ def checked(command, options):
 def words(command, job, options, number):
     """The words of a command over the job in a file. A run tells its report."""
     said = [command, job] + ([str(index(number))] if command == 'sim' else []) + (['--report'] if command == 'run' else [])
-    return said + [f'--{name}={value}' for name, value in checked(command, options).items()]
+    return said + [f'--{name.replace("_", "-")}={value}' for name, value in checked(command, options).items()]

@@ -6,7 +6,7 @@ import signal
 from .places import told
 
 STATUSES = {1: ValueError, 2: ValueError, 3: ValueError, 4: ZeroDivisionError, 5: OSError, 6: OSError, 7: ConnectionError,
-            8: MemoryError, 9: ValueError}
+            8: MemoryError, 9: ValueError, 11: RuntimeError}
 
 
 def failure(status, line, job):
@@ -87,4 +87,8 @@ def without_memory(line, job):
     return MemoryError(f'{line}: take smaller chunks, or `run` with a smaller `memory`'), None
 
 
-EXPLAINED = {2: refused_text, 3: refused_file, 4: divided, 5: unread, 6: unwritten, 8: without_memory}
+def killed(line, job):
+    return RuntimeError(f'{line}: take a larger `allowed_failures`, or none'), None
+
+
+EXPLAINED = {2: refused_text, 3: refused_file, 4: divided, 5: unread, 6: unwritten, 8: without_memory, 11: killed}

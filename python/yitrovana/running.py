@@ -14,16 +14,17 @@ LAST = {}  # the report of the last run
 
 
 def save(arrays, workers=None, threads=None, memory=None, command='run', number=0, saturation=None, script=None, spill_folder=None,
-         scheduler=None, timeout=None, progress=False):
+         scheduler=None, timeout=None, progress=False, allowed_failures=None):
     """Computes arrays into files, `{"b.npy": b}`, by one job.
 
     `command` is 'run', 'plain' or 'sim', whose events `number` draws. `memory` is bytes or a text as '1GiB', and workers put blocks
-    beyond it into `spill_folder`. Or it is 'dask', for a cluster of Dask.distributed: that of the address or the client `scheduler`,
-    which has to answer within `timeout` seconds, of the session's own client, or of threads that are started here. `progress` is True,
-    or is called twice a second with the counts of `yitrovana.progress.Counts`.
+    beyond it into `spill_folder`. `allowed_failures` is how often a task's worker may be lost. Or it is 'dask', for a cluster of
+    Dask.distributed: that of the address or the client `scheduler`, which has to answer within `timeout` seconds, of the session's own
+    client, or of threads that are started here. `progress` is True, or is called twice a second with the counts of
+    `yitrovana.progress.Counts`.
     """
-    options = {'workers': workers, 'threads': threads, 'memory': memory, 'saturation': saturation, 'script': script, 'scheduler': scheduler,
-               'timeout': timeout}
+    options = {'workers': workers, 'threads': threads, 'memory': memory, 'saturation': saturation, 'allowed_failures': allowed_failures,
+               'script': script, 'scheduler': scheduler, 'timeout': timeout}
     job = Job(arrays)
     commands.checked(command, options)
     began = time.monotonic()

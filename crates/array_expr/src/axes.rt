@@ -1,4 +1,4 @@
-// Lists of axes, and the lengths on them.
+//! Lists of axes, and the lengths on them.
 ghost use Rattle.std.specs.Prelude.{◌≡◌, ◌≢◌, ◌<◌, ◌≤◌, ◌⊎◌, ◌↔◌, ◌++◌, [], ◌∷◌, length, cond, map, slice_index, All, Contains, IfOk, OnOk, IsTrue, MatchOption};
 ghost use Rattle.nd_grid.specs.Grid.{is_among, kept_shape};
 ghost use Rattle.array_expr.specs.Axes.{AreAxes, IsFirstBadAxis};

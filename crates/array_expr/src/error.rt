@@ -1,4 +1,4 @@
-// Why an operation is refused as a node.
+//! Why an operation is refused as a node.
 ghost use Rattle.std.specs.Prelude.{◌≡◌};
 
 use nd_shape::{ChunkError, ShapeError};

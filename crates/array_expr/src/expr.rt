@@ -1,4 +1,4 @@
-// Expressions: nodes that name earlier ones.
+//! Expressions: nodes that name earlier ones.
 ghost use Rattle.std.specs.Prelude.{◌≡◌, ◌<◌, [], length, IfOk, IfErr, OnErr};
 ghost use Rattle.array_expr.specs.Node.{shape_at, NamesNodes, IsExpression, IsNode, Adds};
 ghost use Rattle.array_expr.specs.Refusal.{Refuses, RefusesOp};

@@ -1,4 +1,4 @@
-// Concatenations: how the shapes of operands are joined along an axis.
+//! Concatenations: how the shapes of operands are joined along an axis.
 ghost use Rattle.std.specs.Prelude.{◌≡◌, ◌<◌, ◌+◌, ◌^◌, length, map, min, slice_index, slice_set, All, IfOk, IfErr, OnOk, MatchOption};
 ghost use Rattle.nd_shape.specs.Shape.{IsShape};
 ghost use Rattle.array_expr.specs.Node.{shape_at, first_shape, AreJoinable, length_on_axis, joined};

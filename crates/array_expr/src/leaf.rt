@@ -1,4 +1,4 @@
-// Arrays without operands: their limits and their chunks.
+//! Arrays without operands: their limits and their chunks.
 ghost use Rattle.std.specs.Prelude.{◌≡◌, ◌≤◌, ◌^◌, length, All, IfOk, IfErr, OnOk};
 ghost use Rattle.nd_shape.specs.Shape.{IsShape};
 ghost use Rattle.array_expr.specs.Axes.{AreCut, RefusesCut};

@@ -1,4 +1,4 @@
-// The operations of expressions, and the numbers of nodes.
+//! The operations of expressions, and the numbers of nodes.
 ghost use Rattle.std.specs.Prelude.{◌≡◌, ◌<◌, ◌^◌};
 
 use nd_grid::{Binary, Fold};

@@ -1,4 +1,4 @@
-// The shape that an operation makes of those of its operands.
+//! The shape that an operation makes of those of its operands.
 ghost use Rattle.std.specs.Prelude.{◌≡◌, ◌<◌, ◌++◌, [], ◌∷◌, ◌≢◌, ◌↔◌, All, IsTrue, IfNone, IfSome, length, map, slice_index, IfOk, IfErr, OnOk};
 ghost use Rattle.nd_shape.specs.Shape.{IsShape};
 ghost use Rattle.nd_shape.specs.Broadcast.{broadcast, Agree};

@@ -1,4 +1,4 @@
-// What a slice takes of its operand, and its shape.
+//! What a slice takes of its operand, and its shape.
 ghost use Rattle.std.specs.Prelude.{◌≡◌, ◌<◌, ◌≤◌, ◌++◌, [], ◌∷◌, length, cond, IfOk, IfErr, OnOk};
 ghost use Rattle.nd_grid.specs.Grid.{sliced_shape};
 ghost use Rattle.array_expr.specs.Node.{part_on, is_index, Takes, dropped};

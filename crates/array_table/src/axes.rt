@@ -1,4 +1,4 @@
-// What is asked of one axis: slices and chunks.
+//! What is asked of one axis: slices and chunks.
 use crate::row::Row;
 use crate::text::Answer;
 use nd_shape::{ChunkSpec, Dims, Part, axis_chunks, chunk_count, resolve_slice};

@@ -1,4 +1,4 @@
-// What is asked of blocks.
+//! What is asked of blocks.
 ghost use Rattle.std.specs.Prelude.{◌≡◌, [], ◌∷◌, IfSome};
 ghost use Rattle.nd_shape.specs.Region.{IsPart};
 

@@ -1,4 +1,4 @@
-// What is asked of single elements.
+//! What is asked of single elements.
 use crate::row::Row;
 use crate::text::Answer;
 use nd_grid::operation::{combine, fold_two, negate_element, neutral, pick};

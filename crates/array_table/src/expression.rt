@@ -1,4 +1,4 @@
-// What is asked of expressions.
+//! What is asked of expressions.
 ghost use Rattle.std.specs.Prelude.{◌<◌, ◌^◌, All, IfSome, length};
 
 use crate::inputs::have_blocks;

@@ -1,4 +1,4 @@
-// What is asked of expressions over two files in memory.
+//! What is asked of expressions over two files in memory.
 ghost use Rattle.std.specs.Prelude.{◌≡◌, ◌<◌, ◌+◌, List, length};
 ghost use Rattle.io_edge.specs.Content.{Content};
 ghost use Rattle.nd_shape.specs.Region.{IsPart};

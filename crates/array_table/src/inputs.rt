@@ -1,4 +1,4 @@
-// Whether the inputs of an expression are there.
+//! Whether the inputs of an expression are there.
 ghost use Rattle.std.specs.Prelude.{◌≡◌, ◌<◌, ◌≤◌, ◌^◌, IsTrue, List, length, true};
 ghost use Rattle.io_edge.specs.Content.{Content};
 ghost use Rattle.array_expr.specs.Elem.{is_input, next_input};

@@ -1,4 +1,4 @@
-// Lists that are copied.
+//! Lists that are copied.
 use crate::row::Row;
 use crate::text::Answer;
 use nd_shape::{ChunkSpec, Dims, Shapes};

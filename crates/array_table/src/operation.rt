@@ -1,4 +1,4 @@
-// The operations that numbers stand for.
+//! The operations that numbers stand for.
 ghost use Rattle.std.specs.Prelude.{◌<◌, IfSome};
 ghost use Rattle.array_expr.specs.Node.{NamesNodes};
 

@@ -1,4 +1,4 @@
-// The words of a line, which are taken from the left.
+//! The words of a line, which are taken from the left.
 ghost use Rattle.std.specs.Prelude.{◌≡◌, ◌<◌, All, IfSome, length};
 ghost use Rattle.nd_shape.specs.Shape.{elements};
 

@@ -1,4 +1,4 @@
-// What is asked of shapes, indexes and regions.
+//! What is asked of shapes, indexes and regions.
 use crate::row::Row;
 use crate::text::Answer;
 use nd_shape::{Region, Shape, ShapeError, broadcast, broadcast_three, is_inside, ravel, unravel};

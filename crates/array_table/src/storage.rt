@@ -1,4 +1,4 @@
-// What is asked of arrays in the order in which they are stored.
+//! What is asked of arrays in the order in which they are stored.
 use crate::row::Row;
 use crate::text::Answer;
 use nd_rows::{BlockTargets, RegionWalk, from_column_major};

@@ -1,4 +1,4 @@
-// Answers as text.
+//! Answers as text.
 use nd_shape::Region;
 use std::alloc::{AllocError, Global};
 use std::fmt::Display;

@@ -233,6 +233,7 @@ sound-small g a c = record {
   want = λ i k l. refl;
   has = λ w k l. has_none (k == 0) (k == 4) ((w == 1) || (c && (w == 3))) (w == 3) (unequal_over k 0 (omega arith)) (unequal_over k 4 (omega arith));
   bad = λ k l. refl;
+  losses = λ k l. refl;
   on = λ k l. on_none k g (nat_le 1 k && nat_le k 3) (beyond k l);
   steal = λ k. steal_none k g a;
   numbers = λ w h. near w (is_some_cond 1 (nat_le 1 w && nat_le w 3) h);

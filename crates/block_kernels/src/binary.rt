@@ -1,4 +1,4 @@
-// Operations on two rows, element by element.
+//! Operations on two rows, element by element.
 ghost use Rattle.std.specs.Prelude.{◌≡◌, ◌≢◌, ℕ, ℤ, ◌<◌, ◌≤◌, length, cond, get_or, pos, Some, None, IfSome, IfNone};
 ghost use Rattle.nd_grid.specs.Operation.{apply};
 ghost use Rattle.nd_grid.specs.declared.operation.Binary.{Binary};

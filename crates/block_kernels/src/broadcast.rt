@@ -1,4 +1,4 @@
-// Rows of operands that are broadcast.
+//! Rows of operands that are broadcast.
 ghost use Rattle.std.specs.Prelude.{◌≡◌, ℕ, ◌+◌, ◌-◌, ◌*◌, ◌<◌, ◌≤◌, ◌↔◌, cond, length, get_or, pos, Some, IsTrue};
 ghost use Rattle.nd_shape.specs.Shape.{elements};
 ghost use Rattle.nd_shape.specs.Index.{IsIn, index_at};

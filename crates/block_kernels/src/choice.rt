@@ -1,4 +1,4 @@
-// The choice between two rows, element by element.
+//! The choice between two rows, element by element.
 ghost use Rattle.std.specs.Prelude.{◌≡◌, ℕ, ◌<◌, length, get_or, pos};
 ghost use Rattle.nd_grid.specs.Operation.{pick};
 ghost use Rattle.block_kernels.specs.Rows.{item, HoldsItems};

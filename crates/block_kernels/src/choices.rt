@@ -1,4 +1,4 @@
-// The choice between two blocks, element by element.
+//! The choice between two blocks, element by element.
 ghost use Rattle.std.specs.Prelude.{◌≡◌, [], ◌∷◌, IfOk, IfErr, Ok};
 ghost use Rattle.nd_shape.specs.Broadcast.{broadcast, Agree};
 ghost use Rattle.nd_grid.specs.Grid.{grid_of, block_of, chosen};

@@ -1,4 +1,4 @@
-// Rows of elements that lie at equal distances.
+//! Rows of elements that lie at equal distances.
 ghost use Rattle.std.specs.Prelude.{◌≡◌, ℕ, ◌<◌, ◌≤◌, ◌+◌, ◌-◌, ◌*◌, ◌^◌, pos, length, get_or};
 ghost use Rattle.block_kernels.specs.Gathers.{IsSpot, IsRow};
 

@@ -1,4 +1,4 @@
-// The blocks that operations take.
+//! The blocks that operations take.
 ghost use Rattle.std.specs.Prelude.{◌≡◌, ◌<◌, [], length, IfOk, slice_index_or};
 ghost use Rattle.nd_grid.specs.Grid.{grid_of};
 ghost use Rattle.block_kernels.specs.Kernels.{nth, operand};

@@ -1,5 +1,5 @@
-// Blocks whose rows lie in an operand at equal distances. They are made a strip of rows at a time, tile by tile: what the
-// rows of a tile read lies in few lines of the cache.
+//! Blocks whose rows lie in an operand at equal distances. They are made a strip of rows at a time, tile by tile: what the
+//! rows of a tile read lies in few lines of the cache.
 ghost use Rattle.std.specs.Prelude.{◌≡◌, ℕ, ℤ, List, ◌+◌, ◌*◌, ◌<◌, ◌≤◌, ◌^◌, length, get_or, pos, IfOk, OnOk, [], Ok, Some};
 ghost use Rattle.nd_shape.specs.Shape.{elements};
 ghost use Rattle.nd_grid.specs.Grid.{Grid, block_of};

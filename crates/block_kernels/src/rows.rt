@@ -1,4 +1,4 @@
-// Blocks made a row at a time.
+//! Blocks made a row at a time.
 ghost use Rattle.std.specs.Prelude.{◌≡◌, ℕ, ◌+◌, ◌*◌, ◌<◌, ◌≤◌, ◌^◌, length, get_or, pos, IfOk, IfErr, IfSome, IfNone, OnOk, [], Ok, Some};
 ghost use Rattle.nd_shape.specs.Shape.{elements};
 ghost use Rattle.nd_grid.specs.Grid.{Grid, block_of};

@@ -1,4 +1,4 @@
-// What a task makes of the blocks of its dependencies.
+//! What a task makes of the blocks of its dependencies.
 ghost use Rattle.std.specs.Prelude.{◌≡◌, ℕ, ℤ, List, IfOk, IfErr, Ok, [], ◌∷◌, ◌++◌, length, map, get_or, slice_index_or};
 ghost use Rattle.nd_shape.specs.Shape.{IsShape};
 ghost use Rattle.nd_grid.specs.Grid.{block_of, elementwise, sliced, sliced_shape, transposed, IsTranspose, kept_shape};

@@ -1,4 +1,4 @@
-// Shapes of results.
+//! Shapes of results.
 ghost use Rattle.std.specs.Prelude.{◌≡◌, ◌∷◌, [], ◌++◌, cond, map, slice_index, OnOk, IfOk};
 ghost use Rattle.nd_grid.specs.Grid.{sliced_shape};
 

@@ -1,4 +1,4 @@
-// Parts of arrays whose elements rise by a step.
+//! Parts of arrays whose elements rise by a step.
 ghost use Rattle.std.specs.Prelude.{◌≡◌, ℕ, ◌<◌, ◌≤◌, ◌^◌, pos, ◌+ℤ◌, ◌*ℤ◌, length, get_or, IfOk, IfErr, Ok};
 ghost use Rattle.nd_shape.specs.Region.{IsPart};
 ghost use Rattle.nd_grid.specs.Int64.{wrap};

@@ -1,4 +1,4 @@
-// Where the elements of a row come from.
+//! Where the elements of a row come from.
 ghost use Rattle.std.specs.Prelude.{ℕ, ℤ, ◌≡◌, ◌<◌, length};
 
 /// The elements of a row by their number.

@@ -1,4 +1,4 @@
-// Slices and transposes of blocks.
+//! Slices and transposes of blocks.
 ghost use Rattle.std.specs.Prelude.{◌≡◌, ◌+◌, ◌-◌, ◌<◌, ◌^◌, min, length, map, get_or, IfOk, IfErr, Ok};
 ghost use Rattle.nd_shape.specs.Shape.{IsShape, elements};
 ghost use Rattle.nd_shape.specs.Index.{place, index_at};

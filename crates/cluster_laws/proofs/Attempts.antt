@@ -10,7 +10,7 @@ use Rattle.small_facts.proofs.Numbers.{eqb_turned}
 use Rattle.small_facts.proofs.Truth.{and_first, and_second}
 use Rattle.cluster_msgs.specs.declared.cores.Steal.{Steal}
 use Rattle.cluster_msgs.specs.declared.cores.SchedEvent.{SchedEvent}
-use Rattle.cluster_msgs.specs.declared.cores.SchedEvent.TheVariants.{Join, Leave, FromWorker, FromClient, Balance, Evict}
+use Rattle.cluster_msgs.specs.declared.cores.SchedEvent.TheVariants.{Join, Leave, FromWorker, FromClient, Balance, Evict, Replicate}
 use Rattle.cluster_msgs.specs.declared.messages.Down.TheVariants.{FreeKeys}
 use Rattle.cluster_msgs.specs.declared.messages.Up.{Up}
 use Rattle.cluster_msgs.specs.declared.messages.Up.TheVariants.{TaskFinished, TaskErred, AddKeys, ReleaseWorkerData, MissingData, RequestRefreshWhoHas, StealResponse}
@@ -174,6 +174,7 @@ keeps_changed f (FromWorker w up) k i a h = keeps_up f w up k i a h
 keeps_changed f (FromClient c m) k i a h = same_places f (FromClient c m) k i a (change_client f c m).facts.on (on_client f c m) h
 keeps_changed f Balance k i a h = same_places f Balance k i a (balanced f (next_steal f)).facts.on (on_balanced f (next_steal f)) h
 keeps_changed f Evict k i a h = same_places f Evict k i a (evicted f (next_drop f)).facts.on (on_evicted f (next_drop f)) h
+keeps_changed f (Replicate q w) k i a h = inl h
 
 -- ## Settling
 

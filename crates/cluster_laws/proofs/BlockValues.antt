@@ -1,5 +1,5 @@
 -- Each legal event keeps each block the value of its key.
-use Rattle.std.proofs.Common.{◌≡◌, inl, inr, ℕ, Bool, true, false, not, ◌&&◌, ◌||◌, List, [], ◌∷◌, Option, Some, None, refl, sym, ap, ◌∙◌, subst, cond, is_some, is_none}
+use Rattle.std.proofs.Common.{◌≡◌, inl, inr, ⊎_elim, ℕ, Bool, true, false, not, ◌&&◌, ◌||◌, List, [], ◌∷◌, Option, Some, None, refl, sym, ap, ◌∙◌, subst, cond, is_some, is_none}
 use Rattle.std.specs.Prelude.{◌==◌}
 use Rattle.std.specs.Option.{option_map}
 use Rattle.std.specs.List.{list_all, list_any, filter_map}
@@ -8,7 +8,7 @@ use Rattle.std.proofs.lemmas.Option.{none-some, same_Some}
 use Rattle.small_facts.proofs.Options.{some_from_is_none}
 use Rattle.small_facts.proofs.Truth.{or_without}
 use Rattle.cluster_msgs.specs.Shape.{Shape, IsShape, deps_of}
-use Rattle.cluster_msgs.specs.Values.{val}
+use Rattle.cluster_msgs.specs.Values.{val, faulty}
 use Rattle.cluster_msgs.proofs.ValueLemmas.{val-values}
 use Rattle.cluster_msgs.specs.declared.cores.WorkerEvent.TheVariants.{Done}
 use Rattle.cluster_msgs.specs.declared.events.Asker.{Asker}
@@ -21,7 +21,7 @@ use Rattle.cluster_rules.specs.World.{Job, World, Parcel, shape_of, same_asker, 
 use Rattle.cluster_rules.specs.WorldStep.{at_worker, world_step}
 use Rattle.cluster_rules.specs.Enabled.{enabled}
 use Rattle.cluster_rules.specs.Runs.{LegalFrom, legal, run_from, reached}
-use Rattle.cluster_laws.specs.Truth.{no_excuse, MayErr, faulty_key, has_inputs, IsTrueWorld, IsBlame}
+use Rattle.cluster_laws.specs.Truth.{anything, faulty_key, has_inputs, IsTrueWorld, IsBlame}
 use Rattle.cluster_laws.proofs.TruthWorld.{true_world_step, true_opening}
 use Rattle.cluster_laws.specs.Blocks.{Delivery, Cluster, job_of, opening_cluster}
 use Rattle.cluster_laws.specs.Moves.{block_among, delivery_of, delivered, brought, meets_zero, world_after, either, keeps, is_it, starts, blocks_after, cluster_step, LegalWithBlocks, cluster_run}
@@ -57,7 +57,7 @@ module _ {B : Type 0} (s : Setting) (op : ℕ → List B → Option B) (g : IsSh
   j = job_of s op
 
   record Holds (c : Cluster B) : Type 0 where
-    truth : IsTrueWorld no_excuse j c.world
+    truth : IsTrueWorld anything j c.world
     values : AreValues (deps_of s.shape) value c
 
   -- a running key's operation makes its value
@@ -167,11 +167,11 @@ module _ {B : Type 0} (s : Setting) (op : ℕ → List B → Option B) (g : IsSh
   holds_step : (c : Cluster B) (e : Event) → enabled c.world e ≡ true → Holds c → Holds (cluster_step op c e)
   holds_step c e t h =
       subst (λ (v : World). Holds (record { world = v; blocks = blocks_after op c.world v c.blocks e })) (sym (same_world c e t h))
-      (record { truth = true_world_step no_excuse j g c.world e t h.truth; values = values_after c e t h })
+      (record { truth = true_world_step anything j g c.world e (λ s p i k q z. tt) t h.truth; values = values_after c e t h })
 
   holds_opening : Holds (opening_cluster s op)
   holds_opening = record {
-    truth = true_opening no_excuse j g;
+    truth = true_opening anything j g;
     values = record {
       held = λ i k. record { right = λ b e. absurd (none-some b e); present = λ e. absurd (false≢true e); missing = λ e. refl };
       got = λ x k. record { right = λ b e. absurd (none-some b e); present = λ e. absurd (false≢true e); missing = λ e. refl };
@@ -218,9 +218,8 @@ module _ {B : Type 0} (s : Setting) (op : ℕ → List B → Option B) (g : IsSh
       has None e = e
       has (Some b) e = refl
 
-  unexcused : (k : ℕ) → MayErr no_excuse j k → faulty_key j k ≡ true
-  unexcused k (inl z) = z
-  unexcused k (inr z) = absurd z
-
-  pub blamed : (k b : ℕ) → IsBlame no_excuse j k b → IsBlamed (deps_of s.shape) value k b
-  blamed k b h = let p = and_parts (has_inputs j b) (j.zero b) (unexcused b h.fault) in record { faulty = and_from _ _ (all_have (deps_of s.shape b) p.0) p.1; within = h.within }
+  pub blamed : (excused : ℕ → Type 0) (k b : ℕ) → IsBlame excused j k b → IsBlamed excused (deps_of s.shape) value k b
+  blamed excused k b h = record { fault = ⊎_elim (λ z. inl (zero_divides z)) (λ x. inr x) h.fault; within = h.within }
+    where
+      zero_divides : faulty_key j b ≡ true → faulty (deps_of s.shape) value b ≡ true
+      zero_divides z = let p = and_parts (has_inputs j b) (j.zero b) z in and_from _ _ (all_have (deps_of s.shape b) p.0) p.1

@@ -1,7 +1,7 @@
 -- No event by itself makes a key with an error of its own a held one.
-use Rattle.std.proofs.Common.{◌≡◌, ℕ, ◌+◌, Bool, true, false, not, ◌&&◌, ◌||◌, cond, List, [], ◌∷◌, Option, Some, None, refl, sym, ap, ◌∙◌, arith, is_some}
+use Rattle.std.proofs.Common.{◌≡◌, ℕ, ◌+◌, Bool, true, false, not, ◌&&◌, ◌||◌, cond, List, [], ◌∷◌, Option, Some, None, refl, sym, ap, ◌∙◌, arith, is_some, ⊎_elim}
 use Rattle.std.specs.Prelude.{nat_le}
-use Rattle.std.proofs.lemmas.Bool.{false≢true, eqb-true, and_from, not-true, not_from_false, or_left}
+use Rattle.std.proofs.lemmas.Bool.{false≢true, eqb-true, and_from, not-true, not_from_false, or_left, or_cases}
 use Rattle.std.proofs.Math.Dec.{eqb}
 use Rattle.std.specs.List.{list_any, Contains}
 use Rattle.small_facts.proofs.Options.{is_some_cond}
@@ -9,13 +9,13 @@ use Rattle.small_facts.proofs.Ranges.{range_has}
 use Rattle.small_facts.proofs.Truth.{and_first, and_second}
 use Rattle.cluster_msgs.specs.declared.cores.Steal.{Steal}
 use Rattle.cluster_msgs.specs.declared.cores.SchedEvent.{SchedEvent}
-use Rattle.cluster_msgs.specs.declared.cores.SchedEvent.TheVariants.{Join, Leave, FromWorker, FromClient, Balance, Evict}
+use Rattle.cluster_msgs.specs.declared.cores.SchedEvent.TheVariants.{Join, Leave, FromWorker, FromClient, Balance, Evict, Replicate}
 use Rattle.cluster_msgs.specs.declared.messages.Up.{Up}
 use Rattle.cluster_msgs.specs.declared.messages.Up.TheVariants.{TaskFinished, TaskErred, AddKeys, ReleaseWorkerData, MissingData, RequestRefreshWhoHas, StealResponse}
 use Rattle.cluster_msgs.specs.declared.messages.FromClient.{FromClient as FromClientMessage}
 use Rattle.cluster_msgs.specs.declared.messages.FromClient.TheVariants.{Want, Release, Missing}
 use Rattle.cluster_rules.specs.Functions.{put, put_pair, from_one}
-use Rattle.cluster_rules.specs.Sched.{Facts, IsSound, deps, holds, held, erred, need, ready, fed, open_key, connected, is_on}
+use Rattle.cluster_rules.specs.Sched.{Facts, IsSound, deps, holds, held, erred, need, ready, fed, open_key, connected, is_on, is_for, is_above}
 use Rattle.cluster_rules.specs.Policies.{next_steal, next_drop}
 use Rattle.cluster_rules.specs.SchedTable.{Changed, change, change_up, change_client, plain, joined, left, is_this, finished, failed, add_key, add_keys, released, is_copy, lost_copy, is_asked_back, stolen_to, refused, answered, wants_more, wants_less, balanced, evicted}
 use Rattle.cluster_rules.proofs.SchedLemmas.{erred-is}
@@ -62,6 +62,10 @@ ready_is_not_bad f s k r b = false≢true (sym (ready_has_not_erred f k r) ∙ e
     ∙ and_from (not (held f k)) (f.bad k || list_any (erred f) (deps f k)) (not_from_false (held f k) (ready_is_not_held f k r)) (or_left (f.bad k) (list_any (erred f) (deps f k)) b))
 
 -- ## Each row of the table
+
+pub on_is_some : (w : ℕ) (o : Option (ℕ × ℕ)) → is_for w o ≡ true → is_some o ≡ true
+on_is_some w None e = absurd (false≢true e)
+on_is_some w (Some p) e = refl
 
 pub this_is_some : (w a : ℕ) (o : Option (ℕ × ℕ)) → is_this w a o ≡ true → is_some o ≡ true
 this_is_some w a None e = absurd (false≢true e)
@@ -153,9 +157,13 @@ apart_answered f p w k a agreed = pick (is_this w a (f.on k) && is_asked_back (f
     pick true false m = p
     pick false c m = p
 
-apart_left : (f : Facts) → AreApart f → (w : ℕ) → AreApart (left f w)
+-- a key that lost its worker once too often is not held: it was ready
+apart_left : (f : Facts) → IsSound f → IsSettled f → (w : ℕ) → AreApart (left f w)
 unfolding left
-apart_left f p w v j b h = p v j b (is_some_cond (eqb v w) (f.has v j) h)
+apart_left f s t w v j b h = ⊎_elim
+    (λ x. apart_from f s t v j x (is_some_cond (eqb v w) (f.has v j) h))
+    (λ x. false≢true (sym (ready_is_not_held f j (t.placed_are_ready j (on_is_some w (f.on j) (and_first (is_on f w j) (is_above f.setting.allowed (f.losses j + 1)) x)))) ∙ holder_holds f s v j (is_some_cond (eqb v w) (f.has v j) h)))
+    (or_cases (f.bad j) (is_on f w j && is_above f.setting.allowed (f.losses j + 1)) b)
 
 apart_balanced : (f : Facts) → AreApart f → (c : Option Steal) → AreApart (balanced f c).facts
 apart_balanced f p None = p
@@ -186,8 +194,9 @@ apart_joined f p threads = p
 
 pub apart_changed : (f : Facts) → IsSound f → IsSettled f → (e : SchedEvent) → AreApart (change f e).facts
 apart_changed f s t (Join threads) = apart_joined f (apart_from f s t) threads
-apart_changed f s t (Leave w) = apart_left f (apart_from f s t) w
+apart_changed f s t (Leave w) = apart_left f s t w
 apart_changed f s t (FromWorker w up) = apart_up f s t w up
 apart_changed f s t (FromClient c m) = apart_client f (apart_from f s t) c m
 apart_changed f s t Balance = apart_balanced f (apart_from f s t) (next_steal f)
 apart_changed f s t Evict = apart_evicted f (apart_from f s t) (next_drop f)
+apart_changed f s t (Replicate k w) = apart_from f s t

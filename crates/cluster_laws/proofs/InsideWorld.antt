@@ -1,5 +1,5 @@
 -- Nothing in the world names a key that isn't there, whatever operations give.
-use Rattle.std.proofs.Common.{◌≡◌, ℕ, zero, ◌+◌, Bool, true, false, ◌&&◌, List, [], ◌∷◌, ◌++◌, Option, Some, None, refl, ap, ◌∙◌, subst, cond}
+use Rattle.std.proofs.Common.{◌≡◌, ℕ, zero, ◌+◌, Bool, true, false, not, ◌&&◌, List, [], ◌∷◌, ◌++◌, Option, Some, None, refl, ap, ◌∙◌, subst, cond}
 use Rattle.std.specs.Prelude.{nat_lt}
 use Rattle.std.specs.List.{list_all, AllByRecursion}
 use Rattle.std.proofs.lemmas.Bool.{false≢true, and_parts}
@@ -10,7 +10,7 @@ use Rattle.cluster_msgs.specs.declared.messages.Up.{Up}
 use Rattle.cluster_msgs.specs.declared.messages.ToClient.{ToClient}
 use Rattle.cluster_msgs.specs.declared.messages.FromClient.{FromClient as ClientMessage}
 use Rattle.cluster_msgs.specs.declared.cores.SchedEvent.{SchedEvent}
-use Rattle.cluster_msgs.specs.declared.cores.SchedEvent.TheVariants.{Join as JoinSched, Leave, FromWorker, FromClient, Balance as BalanceSched, Evict as EvictSched}
+use Rattle.cluster_msgs.specs.declared.cores.SchedEvent.TheVariants.{Join as JoinSched, Leave, FromWorker, FromClient, Balance as BalanceSched, Evict as EvictSched, Replicate as ReplicateSched}
 use Rattle.cluster_msgs.specs.declared.cores.WorkerEvent.{WorkerEvent}
 use Rattle.cluster_msgs.specs.declared.cores.WorkerEvent.TheVariants.{Down as Told, Start as StartTask, Done, Ask as AskPeer, Gathered, GatherFailed, DataLost}
 use Rattle.cluster_msgs.specs.declared.cores.ClientEvent.{ClientEvent}
@@ -18,10 +18,10 @@ use Rattle.cluster_msgs.specs.declared.cores.ClientEvent.TheVariants.{Want as Wa
 use Rattle.cluster_msgs.specs.declared.events.Asker.{Asker}
 use Rattle.cluster_msgs.specs.declared.events.Asker.TheVariants.{Worker, Client}
 use Rattle.cluster_msgs.specs.declared.events.Event.{Event}
-use Rattle.cluster_msgs.specs.declared.events.Event.TheVariants.{Want, Release, Join, Lose, SeeLoss, Suspect, DeliverDown, DeliverUp, DeliverToClient, DeliverFromClient, Start, Finish, SendGather, ServeGather, ArriveGather, FailGather, Balance, Evict, Spill, LoseSpilled}
+use Rattle.cluster_msgs.specs.declared.events.Event.TheVariants.{Want, Release, Join, Lose, SeeLoss, Suspect, DeliverDown, DeliverUp, DeliverToClient, DeliverFromClient, Start, Finish, SendGather, ServeGather, ArriveGather, FailGather, Balance, Evict, Replicate, Spill, LoseSpilled}
 use Rattle.cluster_rules.specs.Functions.{put}
-use Rattle.cluster_rules.specs.Sched.{Setting}
-use Rattle.cluster_rules.specs.SchedTable.{up_keys, client_keys, change}
+use Rattle.cluster_rules.specs.Sched.{Setting, held, holds}
+use Rattle.cluster_rules.specs.SchedTable.{up_keys, client_keys, change, sched_takes}
 use Rattle.cluster_rules.specs.SchedStep.{sched_step}
 use Rattle.cluster_rules.specs.Worker.{Ask, new_worker, has_any}
 use Rattle.cluster_rules.specs.WorkerStep.{worker_step}
@@ -286,7 +286,7 @@ module _ (j : Job) (low : IsShape j.setting.shape) where
   }
 
   pub in_world_step : (w : World) (e : Event) → enabled w e ≡ true → IsInsideWorld graph w → IsInsideWorld graph (world_step j w e)
-  unfolding world_step enabled
+  unfolding world_step enabled sched_takes
   in_world_step w (Want c ks) t h = in_client w c (WantKeys ks) (keys_of_test ks w.sched.setting.shape h.shape (and_parts (has_any ks) _ (and_parts _ (has_any ks && _) t).1).1) h
   in_world_step w (Release c ks) t h = in_client w c (ReleaseKeys ks) (keys_of_test ks w.sched.setting.shape h.shape (and_parts (has_any ks) _ (and_parts _ (has_any ks && _) t).1).1) h
   in_world_step w (Join threads) t h = in_scheduler (new_at w (w.sched.last_worker + 1) threads) (JoinSched threads) tt (in_new_at w (w.sched.last_worker + 1) threads h)
@@ -305,6 +305,7 @@ module _ (j : Job) (low : IsShape j.setting.shape) where
   in_world_step w (FailGather a p) t h = in_fail_ask w a p (open_ask w a p) h
   in_world_step w Balance t h = in_scheduler w BalanceSched tt h
   in_world_step w Evict t h = in_scheduler w EvictSched tt h
+  in_world_step w (Replicate k i) t h = in_scheduler w (ReplicateSched k i) (keys_of_test (k ∷ []) w.sched.setting.shape h.shape (and_parts (is_connected w i) _ (and_parts _ (held w.sched k && not (holds w.sched i k)) t).0).1).0 h
   in_world_step w (Spill i k) t h = in_spill w i k (and_parts ((w.workers i).mem k) _ (and_parts (w.alive i) _ t).1).0 h
   in_world_step w (LoseSpilled i k) t h = in_worker w i (DataLost k) (h.spilled i k (and_parts (w.alive i) _ t).1) h
 

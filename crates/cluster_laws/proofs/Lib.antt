@@ -1,6 +1,10 @@
 pub mod Framed
 pub mod OrderLemmas
 pub mod WorldLemmas
+pub mod Losses
+pub mod SchedPart
+pub mod Counted
+pub mod Few
 pub mod TruthWorker
 pub mod TruthSched
 pub mod TruthWorld

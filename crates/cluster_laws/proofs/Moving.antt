@@ -12,7 +12,7 @@ use Rattle.cluster_msgs.specs.declared.messages.FromClient.{FromClient as Client
 use Rattle.cluster_msgs.specs.declared.events.Asker.{Asker}
 use Rattle.cluster_msgs.specs.declared.events.Asker.TheVariants.{Worker, Client}
 use Rattle.cluster_msgs.specs.declared.events.Event.{Event}
-use Rattle.cluster_msgs.specs.declared.events.Event.TheVariants.{Want, Release, Join, Lose, SeeLoss, Suspect, DeliverDown, DeliverUp, DeliverToClient, DeliverFromClient, Start, Finish, SendGather, ServeGather, ArriveGather, FailGather, Balance, Evict, Spill, LoseSpilled}
+use Rattle.cluster_msgs.specs.declared.events.Event.TheVariants.{Want, Release, Join, Lose, SeeLoss, Suspect, DeliverDown, DeliverUp, DeliverToClient, DeliverFromClient, Start, Finish, SendGather, ServeGather, ArriveGather, FailGather, Balance, Evict, Replicate, Spill, LoseSpilled}
 use Rattle.cluster_rules.specs.Worker.{Ask, WorkerFacts, would_start, wstate, is_ready_state, is_fed}
 use Rattle.cluster_rules.specs.World.{Job, World, Parcel, is_connected, open_ask, with_parcel, parcel_of, without_parcel}
 use Rattle.cluster_rules.specs.WorldStep.{scheduled, worked, client_worked, take_down_first, take_up, take_up_first, take_to_client, take_from_client, ask_by, gathered_at, serve, take_answer, fail_ask, world_step}
@@ -92,6 +92,7 @@ answers_after {B = B} j w b (ArriveGather a p n) h = answer_taken w b.carried (d
 answers_after j w b (FailGather a p) h = h ∙ sym (fail_leaves w a p (open_ask w a p))
 answers_after j w b Balance h = h
 answers_after j w b Evict h = h
+answers_after j w b (Replicate k i) h = h
 answers_after j w b (Spill i k) h = h
 answers_after j w b (LoseSpilled i k) h = h
 

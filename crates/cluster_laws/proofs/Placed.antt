@@ -26,15 +26,17 @@ pub record IsDerivedAs (f g : Facts) : Type 0 where
   pub ready : ready g ≡ ready f
   pub has : g.has ≡ f.has
   pub bad : g.bad ≡ f.bad
+  pub losses : g.losses ≡ f.losses
+  pub setting : g.setting ≡ f.setting
   pub steal : g.steal ≡ f.steal
 
 pub derived_self : (f : Facts) → IsDerivedAs f f
-derived_self f = record { known = refl; need = refl; held = refl; ready = refl; has = refl; bad = refl; steal = refl }
+derived_self f = record { known = refl; need = refl; held = refl; ready = refl; has = refl; bad = refl; losses = refl; setting = refl; steal = refl }
 
 derived_give : (f : Facts) (k : ℕ) (to : Option ℕ) → IsDerivedAs f (give f k to)
 unfolding known need held erred wanted ready
 derived_give f k None = derived_self f
-derived_give f k (Some w) = record { known = refl; need = refl; held = refl; ready = refl; has = refl; bad = refl; steal = refl }
+derived_give f k (Some w) = record { known = refl; need = refl; held = refl; ready = refl; has = refl; bad = refl; losses = refl; setting = refl; steal = refl }
 
 derived_one : (f : Facts) (k : ℕ) → IsDerivedAs f (place_one f k)
 unfolding place_one
@@ -52,6 +54,8 @@ derived_then f g h p q = record {
   ready = q.ready ∙ p.ready;
   has = q.has ∙ p.has;
   bad = q.bad ∙ p.bad;
+  losses = q.losses ∙ p.losses;
+  setting = q.setting ∙ p.setting;
   steal = q.steal ∙ p.steal;
 }
 

@@ -1,23 +1,24 @@
 -- The facts settle after each event.
-use Rattle.std.proofs.Common.{◌≡◌, ℕ, ◌<◌, ◌≤◌, Bool, true, false, ◌&&◌, cond, List, Option, Some, None, refl, sym, ap, ◌∙◌, arith, is_some, ◌⊎◌, ⊎_elim}
+use Rattle.std.proofs.Common.{◌≡◌, ℕ, ◌+◌, subst, ◌<◌, ◌≤◌, Bool, true, false, ◌&&◌, cond, List, Option, Some, None, refl, sym, ap, ◌∙◌, arith, is_some, ◌⊎◌, ⊎_elim}
 use Rattle.std.proofs.lemmas.Bool.{false≢true, cases_lt}
 use Rattle.small_facts.proofs.Truth.{and_first, cond_else_false}
 use Rattle.cluster_msgs.specs.declared.cores.SchedEvent.{SchedEvent}
 use Rattle.cluster_rules.specs.Functions.{from_one}
 use Rattle.cluster_rules.specs.Derived.{below, is_in, reach}
-use Rattle.cluster_rules.specs.Sched.{Facts, Setting, IsSound, keys, deps, holds, held, erred, wanted, known, need, ready, fed, open_key, sched_opening, full, tasks}
+use Rattle.cluster_rules.specs.Sched.{Facts, Setting, IsSound, keys, deps, holds, held, erred, wanted, known, need, ready, fed, open_key, is_above, sched_opening, full, tasks}
 use Rattle.cluster_rules.specs.Policies.{candidates}
 use Rattle.cluster_rules.specs.SchedTable.{Changed, change, sched_takes}
 use Rattle.cluster_rules.specs.SchedStep.{drop_bad, drop_has, drop_on, place_keys, place_all, settle, posted, down_messages, finish_step, sched_step}
 use Rattle.cluster_rules.proofs.SchedLemmas.{need-past}
 use Rattle.cluster_rules.proofs.SchedFrame.{in_range, placing_keys}
 use Rattle.cluster_rules.proofs.NothingLemmas.{need-nowhere}
-use Rattle.cluster_rules.proofs.SoundStep.{sound_changed, false_less, none_less}
+use Rattle.cluster_rules.proofs.SoundStep.{sound_changed, false_less, zero_less, none_less}
 use Rattle.cluster_laws.specs.Settled.{IsSettled}
 use Rattle.cluster_laws.proofs.Lists.{any_weaken}
 use Rattle.cluster_laws.proofs.Fewer.{IsThinned, thinned-need, reach_by}
 use Rattle.cluster_laws.proofs.Placed.{IsDerivedAs, no_candidates, nowhere, derived_keys, ready_on_keys, left_have_no_place}
 use Rattle.cluster_laws.proofs.Errors.{AreApart, apart_changed, holder_of}
+use Rattle.cluster_laws.proofs.Losses.{AreCapped, none_above, capped_changed}
 
 -- what is needed is known
 needed_is_known : (f : Facts) → IsSound f → (k : ℕ) → need f k ≡ true → known f k ≡ true
@@ -94,6 +95,7 @@ sound_drop_bad f s = record {
   want = s.want;
   has = s.has;
   bad = λ k l. false_less (known f k) (f.bad k) (s.bad k l);
+  losses = λ k l. zero_less (known f k) (f.losses k) (s.losses k l);
   on = s.on;
   steal = s.steal;
   numbers = s.numbers;
@@ -134,16 +136,39 @@ error_stood : (g : Facts) (k : ℕ) → (drop_on (drop_has (drop_bad g))).bad k 
 unfolding drop_on drop_has drop_bad
 error_stood g k e = cond_else_false (known g k) (g.bad k) e
 
+losses_are_less : (b : Bool) (n m : ℕ) → n ≤ m → cond b n 0 ≤ m
+losses_are_less true n m l = l
+losses_are_less false n m l = omega arith
+
+uncounted : (g : Facts) (k : ℕ) → known g k ≡ false → (drop_on (drop_has (drop_bad g))).losses k ≡ 0
+unfolding drop_on drop_has drop_bad
+uncounted g k e = ap (λ b. cond b (g.losses k) 0) e
+
+killed_stays : (g : Facts) → AreCapped g → (k : ℕ) → is_above g.setting.allowed ((drop_on (drop_has (drop_bad g))).losses k) ≡ true → (drop_on (drop_has (drop_bad g))).bad k ≡ true
+unfolding drop_on drop_has drop_bad
+killed_stays g c k e = pick (known g k) e
+  where
+    pick : (b : Bool) → is_above g.setting.allowed (cond b (g.losses k) 0) ≡ true → cond b (g.bad k) false ≡ true
+    pick true e = c.killed k e
+    pick false e = absurd (none_above g.setting.allowed e)
+
+no_more : (g : Facts) → AreCapped g → (k a : ℕ) → g.setting.allowed ≡ Some a → (drop_on (drop_has (drop_bad g))).losses k ≤ a + 1
+unfolding drop_on drop_has drop_bad
+no_more g c k a e = losses_are_less (known g k) (g.losses k) (a + 1) (c.stop k a e)
+
 -- what the facts settle to, from facts in which no held key has an error of its own
-settled_placed : (g : Facts) → IsSound g → AreApart g → IsSound (drop_has (drop_bad g)) → IsSettled (place_all (drop_on (drop_has (drop_bad g))))
+settled_placed : (g : Facts) → IsSound g → AreApart g → AreCapped g → IsSound (drop_has (drop_bad g)) → IsSettled (place_all (drop_on (drop_has (drop_bad g))))
 unfolding place_all reach need erred drop_on drop_bad drop_has
-settled_placed g s apart sh = record {
+settled_placed g s apart cap sh = record {
   held_are_needed = λ w k e. needs k (kept_here w k (ap (λ has. is_some (has w k)) (sym d.has) ∙ e));
   needed_are_known = λ k e. knows k (needed_is_known b sb k (needed k e));
   placed_are_ready = λ k e. ap (λ r. r k) d.ready ∙ ready_on_keys o ks (λ j x. ap (λ r. r j) (ready-drop_on h) ∙ ready_is_given h j x) k e;
   stolen_are_placed = λ k e. given k (steal_is_given h sh k (ap (λ m. is_some (m k)) (sym d.steal) ∙ e));
   errors_are_known = λ k e. knows k (ap (λ r. r k) (known-drop_bad g) ∙ error_known k (ap (λ m. m k) (sym d.bad) ∙ e));
   errors_are_not_held = λ k e. none_held k (error_was k (ap (λ m. m k) (sym d.bad) ∙ e)) (held p k) refl;
+  losses_are_known = λ k e. ap (λ n. n k) d.losses ∙ uncounted g k (not_known k e);
+  killed_are_errors = λ k e. ap (λ m. m k) d.bad ∙ killed_stays g cap k (ap (λ (c : Setting). is_above c.allowed (o.losses k)) (sym d.setting) ∙ ap (λ (n : ℕ → ℕ). is_above p.setting.allowed (n k)) (sym d.losses) ∙ e);
+  losses_stop = λ k a e. subst (λ (n : ℕ → ℕ). n k ≤ a + 1) (sym d.losses) (no_more g cap k a (ap (λ (c : Setting). c.allowed) (sym d.setting) ∙ e));
   waiting_have_no_place = λ k r n. left_have_no_place o ks k ((thinned b sb).inside k (wanted_here k (ap (λ q. q k) (sym d.ready) ∙ r))) (ap (λ q. q k) (sym d.ready) ∙ r) n;
 }
   where
@@ -176,6 +201,13 @@ settled_placed g s apart sh = record {
 
     knows : (k : ℕ) → known b k ≡ true → known p k ≡ true
     knows k e = ap (λ n. n k) d.known ∙ ap (λ n. n k) (known-drop_on h) ∙ ap (λ n. n k) (known-drop_has b) ∙ e
+
+    not_known : (k : ℕ) → known p k ≡ false → known g k ≡ false
+    not_known k e = pick (known b k) refl
+      where
+        pick : (x : Bool) → known b k ≡ x → known g k ≡ false
+        pick true y = absurd (false≢true (sym e ∙ knows k y))
+        pick false y = ap (λ n. n k) (sym (known-drop_bad g)) ∙ y
 
     kept_here : (w k : ℕ) → is_some (o.has w k) ≡ true → need b k ≡ true
     kept_here w k e = has_is_needed b w k e
@@ -213,6 +245,9 @@ settled_posted f g q = record {
   stolen_are_placed = q.stolen_are_placed;
   errors_are_known = q.errors_are_known;
   errors_are_not_held = q.errors_are_not_held;
+  losses_are_known = q.losses_are_known;
+  killed_are_errors = q.killed_are_errors;
+  losses_stop = q.losses_stop;
   waiting_have_no_place = λ k r n. nowhere (posted (settle f g) (down_messages (settle f g))) k (candidates-posted f g k ∙ no_candidates (settle f g).placed k (q.waiting_have_no_place k r n));
 }
 
@@ -225,6 +260,7 @@ sound_drop_has f s = record {
   want = s.want;
   has = λ w k l. none_less (need f k) (f.has w k) (s.has w k l);
   bad = s.bad;
+  losses = s.losses;
   on = s.on;
   steal = s.steal;
   numbers = s.numbers;
@@ -239,7 +275,7 @@ pub settled_step : (f : Facts) → IsSound f → IsSettled f → (e : SchedEvent
 unfolding sched_step finish_step settle
 settled_step f s t e h =
     let sg = sound_changed f s e h in
-    settled_posted f (change f e) (settled_placed (change f e).facts sg (apart_changed f s t e) (sound_drop_has (drop_bad (change f e).facts) (sound_drop_bad (change f e).facts sg)))
+    settled_posted f (change f e) (settled_placed (change f e).facts sg (apart_changed f s t e) (capped_changed f s t e) (sound_drop_has (drop_bad (change f e).facts) (sound_drop_bad (change f e).facts sg)))
 
 pub settled_opening : (c : Setting) → IsSettled (sched_opening c)
 settled_opening c = record {
@@ -249,5 +285,8 @@ settled_opening c = record {
   stolen_are_placed = λ k e. absurd (false≢true e);
   errors_are_known = λ k e. absurd (false≢true e);
   errors_are_not_held = λ k e. absurd (false≢true e);
+  losses_are_known = λ k e. refl;
+  killed_are_errors = λ k e. absurd (none_above c.allowed e);
+  losses_stop = λ k a e. omega arith;
   waiting_have_no_place = λ k r n. absurd (false≢true (sym (need-nowhere (sched_opening c) (λ d j. refl) k) ∙ ready_is_needed (sched_opening c) k r));
 }

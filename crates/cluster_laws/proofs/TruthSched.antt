@@ -1,8 +1,8 @@
 -- The scheduler's errors are of faulty keys, and so is each failure that it tells a client. A client's steps keep what is true of it.
-use Rattle.std.proofs.Common.{◌≡◌, inl, ℕ, zero, suc, ◌+◌, Bool, true, false, not, ◌&&◌, List, [], ◌∷◌, Option, Some, None, refl, sym, ◌∙◌, subst, cond, filter, fold}
+use Rattle.std.proofs.Common.{◌≡◌, inl, inr, ◌⊎◌, ◌||◌, ℕ, zero, suc, ◌+◌, Bool, true, false, not, ◌&&◌, List, [], ◌∷◌, Option, Some, None, refl, sym, ◌∙◌, subst, cond, filter, fold}
 use Rattle.std.specs.Prelude.{◌==◌, nat_le, option_map, filter_map, flat_map}
 use Rattle.std.specs.List.{list_any, cons_option, AllByRecursion}
-use Rattle.std.proofs.lemmas.Bool.{and_parts}
+use Rattle.std.proofs.lemmas.Bool.{and_parts, or_cases}
 use Rattle.std.proofs.lemmas.Option.{none-some, same_Some}
 use Rattle.small_facts.proofs.Every.{all_join}
 use Rattle.cluster_msgs.specs.Dags.{IsEarlier}
@@ -14,13 +14,13 @@ use Rattle.cluster_msgs.specs.declared.messages.ToClient.TheVariants.{KeyInMemor
 use Rattle.cluster_msgs.specs.declared.messages.FromClient.TheVariants.{Want as WantMessage, Release as ReleaseMessage, Missing as MissingMessage}
 use Rattle.cluster_msgs.specs.declared.cores.Steal.{Steal}
 use Rattle.cluster_msgs.specs.declared.cores.SchedEvent.{SchedEvent}
-use Rattle.cluster_msgs.specs.declared.cores.SchedEvent.TheVariants.{Join, Leave, FromWorker, FromClient, Balance, Evict}
+use Rattle.cluster_msgs.specs.declared.cores.SchedEvent.TheVariants.{Join, Leave, FromWorker, FromClient, Balance, Evict, Replicate}
 use Rattle.cluster_msgs.specs.declared.cores.ClientEvent.{ClientEvent}
 use Rattle.cluster_msgs.specs.declared.cores.ClientEvent.TheVariants.{Want, Release, FromScheduler, Ask as ClientAsk, Gathered as ClientGathered, GatherFailed as ClientGatherFailed}
 use Rattle.cluster_rules.proofs.BlameLemmas.{blame_below}
 use Rattle.cluster_rules.specs.Functions.{put, put_pair, from_one}
 use Rattle.cluster_rules.specs.Derived.{below, is_in}
-use Rattle.cluster_rules.specs.Sched.{Setting, Facts, keys, deps, connected, holds, held, erred, is_on, holders, blame}
+use Rattle.cluster_rules.specs.Sched.{Setting, Facts, keys, deps, connected, holds, held, erred, is_on, is_above, known, holders, blame}
 use Rattle.cluster_rules.specs.Policies.{next_steal, next_drop}
 use Rattle.cluster_rules.specs.SchedTable.{Changed, plain, joined, left, is_this, finished, failed, add_key, add_keys, released, is_copy, lost_copy, is_asked_back, stolen_to, refused, answered, wants_more, wants_less, balanced, evicted, nothing_freed, change}
 use Rattle.cluster_rules.specs.SchedStep.{Stages, settle, was_held, was_erred, client_message, to_clients, tells_held, reply_message, client_messages, posted, finish_step, sched_step}
@@ -30,7 +30,7 @@ use Rattle.cluster_rules.specs.Client.{ClientFacts, client_wants, client_release
 use Rattle.cluster_rules.specs.World.{Job}
 use Rattle.cluster_rules.specs.WorldStep.{letters}
 use Rattle.cluster_rules.proofs.SchedFrame.{step_settles}
-use Rattle.cluster_laws.specs.Truth.{faulty_key, MayErr, IsBlame, AreValued, IsTrueNews, IsTrueSched, IsTrueClient, IsTrueClientEvent, IsTrueSchedEvent}
+use Rattle.cluster_laws.specs.Truth.{faulty_key, IsKilledBy, MayErr, IsBlame, AreValued, IsTrueNews, IsTrueSched, IsTrueClient, IsTrueClientEvent, IsTrueSchedEvent}
 use Rattle.cluster_rules.proofs.WorkerLemmas.{at_one}
 use Rattle.cluster_laws.proofs.TruthWorker.{kept_valued}
 
@@ -98,28 +98,67 @@ module _ (excused : ℕ → Type 0) (j : Job) where
   true_evicted f None h = h
   true_evicted f (Some p) h = record { setting = h.setting; bad = h.bad }
 
-  pub true_change : (f : Facts) (e : SchedEvent) → IsTrueSchedEvent j e → IsTrueSched excused j f → IsTrueSched excused j (change f e).facts
-  unfolding joined left wants_more wants_less
-  true_change f (Join threads) t h = record { setting = h.setting; bad = h.bad }
-  true_change f (Leave w) t h = record { setting = h.setting; bad = h.bad }
-  true_change f (FromWorker w (TaskFinished seen k a)) t h = true_finished f w k a h
-  true_change f (FromWorker w (TaskErred seen k a)) t h = true_failed f w k a t h
-  true_change f (FromWorker w (AddKeys seen ks)) t h = true_add_keys w seen (plain f) ks h
-  true_change f (FromWorker w (ReleaseWorkerData seen k)) t h = true_released f w seen k h
-  true_change f (FromWorker w (MissingData seen k x c)) t h = true_lost_copy f x k c h
-  true_change f (FromWorker w (RequestRefreshWhoHas seen k)) t h = h
-  true_change f (FromWorker w (StealResponse seen k a agreed)) t h = true_answered f w k a agreed h
-  true_change f (FromClient c (WantMessage ks)) t h = record { setting = h.setting; bad = h.bad }
-  true_change f (FromClient c (ReleaseMessage ks)) t h = record { setting = h.setting; bad = h.bad }
-  true_change f (FromClient c (MissingMessage k x copy)) t h = true_lost_copy f x k copy h
-  true_change f Balance t h = true_balanced f (next_steal f) h
-  true_change f Evict t h = true_evicted f (next_drop f) h
+  -- what an event's own change has to keep: a key that is not known loses its error in settling
+  record Changes (g : Facts) : Type 0 where
+    setting : g.setting ≡ j.setting
+    bad : (k : ℕ) → known g k ≡ true → g.bad k ≡ true → MayErr excused j k
 
-  pub true_sched_step : (f : Facts) (e : SchedEvent) → IsTrueSchedEvent j e → IsTrueSched excused j f → IsTrueSched excused j (sched_step f e).facts
-  true_sched_step f e t h =
-      let c = true_change f e t h in
+  from_true : (g : Facts) → IsTrueSched excused j g → Changes g
+  from_true g h = record { setting = h.setting; bad = λ k n b. h.bad k b }
+
+  -- whoever leaves, each key that is killed by it is excused
+  abbrev pub IsExcusing : Facts → SchedEvent → Type 0
+  IsExcusing f e = (i k : ℕ) → e ≡ Leave i → IsKilledBy f i k → excused k
+
+  bad_left : (f : Facts) (w k : ℕ) → (left f w).bad k ≡ true → (f.bad k || (is_on f w k && is_above f.setting.allowed (f.losses k + 1))) ≡ true
+  unfolding left
+  bad_left f w k b = b
+
+  setting_left : (f : Facts) (w : ℕ) → (left f w).setting ≡ f.setting
+  unfolding left
+  setting_left f w = refl
+
+  true_left : (f : Facts) (w : ℕ) → IsExcusing f (Leave w) → IsTrueSched excused j f → Changes (left f w)
+  true_left f w x h = record { setting = setting_left f w ∙ h.setting; bad = λ k n b. by k n (or_cases (f.bad k) (is_on f w k && is_above f.setting.allowed (f.losses k + 1)) (bad_left f w k b)) }
+    where
+      by : (k : ℕ) → known (left f w) k ≡ true → (f.bad k ≡ true) ⊎ ((is_on f w k && is_above f.setting.allowed (f.losses k + 1)) ≡ true) → MayErr excused j k
+      by k n (inl b) = h.bad k b
+      by k n (inr b) = let q = and_parts (is_on f w k) (is_above f.setting.allowed (f.losses k + 1)) b in inr (x w k refl (record { on = q.0; above = q.1; known = n }))
+
+  true_joined : (f : Facts) (threads : ℕ) → IsTrueSched excused j f → IsTrueSched excused j (joined f threads)
+  unfolding joined
+  true_joined f threads h = record { setting = h.setting; bad = h.bad }
+
+  true_wants : (f : Facts) (c : ℕ) (ks : List ℕ) → IsTrueSched excused j f → IsTrueSched excused j (wants_more f c ks)
+  unfolding wants_more
+  true_wants f c ks h = record { setting = h.setting; bad = h.bad }
+
+  true_releases : (f : Facts) (c : ℕ) (ks : List ℕ) → IsTrueSched excused j f → IsTrueSched excused j (wants_less f c ks)
+  unfolding wants_less
+  true_releases f c ks h = record { setting = h.setting; bad = h.bad }
+
+  true_change : (f : Facts) (e : SchedEvent) → IsExcusing f e → IsTrueSchedEvent j e → IsTrueSched excused j f → Changes (change f e).facts
+  true_change f (Join threads) x t h = from_true _ (true_joined f threads h)
+  true_change f (Leave w) x t h = true_left f w x h
+  true_change f (FromWorker w (TaskFinished seen k a)) x t h = from_true _ (true_finished f w k a h)
+  true_change f (FromWorker w (TaskErred seen k a)) x t h = from_true _ (true_failed f w k a t h)
+  true_change f (FromWorker w (AddKeys seen ks)) x t h = from_true _ (true_add_keys w seen (plain f) ks h)
+  true_change f (FromWorker w (ReleaseWorkerData seen k)) x t h = from_true _ (true_released f w seen k h)
+  true_change f (FromWorker w (MissingData seen k y c)) x t h = from_true _ (true_lost_copy f y k c h)
+  true_change f (FromWorker w (RequestRefreshWhoHas seen k)) x t h = from_true _ h
+  true_change f (FromWorker w (StealResponse seen k a agreed)) x t h = from_true _ (true_answered f w k a agreed h)
+  true_change f (FromClient c (WantMessage ks)) x t h = from_true _ (true_wants f c ks h)
+  true_change f (FromClient c (ReleaseMessage ks)) x t h = from_true _ (true_releases f c ks h)
+  true_change f (FromClient c (MissingMessage k y copy)) x t h = from_true _ (true_lost_copy f y k copy h)
+  true_change f Balance x t h = from_true _ (true_balanced f (next_steal f) h)
+  true_change f Evict x t h = from_true _ (true_evicted f (next_drop f) h)
+  true_change f (Replicate k w) x t h = from_true _ h
+
+  pub true_sched_step : (f : Facts) (e : SchedEvent) → IsExcusing f e → IsTrueSchedEvent j e → IsTrueSched excused j f → IsTrueSched excused j (sched_step f e).facts
+  true_sched_step f e x t h =
+      let c = true_change f e x t h in
       let s = step_settles f e in
-      record { setting = s.setting ∙ c.setting; bad = λ k b. c.bad k (s.bad k b) }
+      record { setting = s.setting ∙ c.setting; bad = λ k b. let q = s.bad k b in c.bad k q.0 q.1 }
 
   -- what a failure is blamed on
   blame_true : (f : Facts) → IsShape j.setting.shape → IsTrueSched excused j f → (k b : ℕ) → blame f k ≡ Some b → IsBlame excused j k b
@@ -160,10 +199,10 @@ module _ (excused : ℕ → Type 0) (j : Job) where
       pick true = (tt, tt)
       pick false = tt
 
-  pub true_news : (f : Facts) (e : SchedEvent) → IsShape j.setting.shape → IsTrueSchedEvent j e → IsTrueSched excused j f → AllByRecursion (λ m. IsTrueNews excused j m.1) (sched_step f e).clients
+  pub true_news : (f : Facts) (e : SchedEvent) → IsShape j.setting.shape → IsExcusing f e → IsTrueSchedEvent j e → IsTrueSched excused j f → AllByRecursion (λ m. IsTrueNews excused j m.1) (sched_step f e).clients
   unfolding sched_step finish_step posted client_messages to_clients
-  true_news f e g t h =
-      let s = true_sched_step f e t h in
+  true_news f e g x t h =
+      let s = true_sched_step f e x t h in
       let p : IsTrueSched excused j (settle f (change f e)).placed = record { setting = s.setting; bad = s.bad } in
       all_join (λ m. IsTrueNews excused j m.1) _ (reply_message (settle f (change f e)) (to_clients (settle f (change f e))) (settle f (change f e)).changed.reply) (true_to_clients (settle f (change f e)) g p (below (keys (settle f (change f e)).before)) (from_one (settle f (change f e)).before.setting.clients)) (true_reply (settle f (change f e)) (to_clients (settle f (change f e))) (settle f (change f e)).changed.reply)
 

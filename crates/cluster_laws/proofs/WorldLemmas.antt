@@ -13,7 +13,7 @@ use Rattle.cluster_msgs.specs.declared.messages.FromClient.{FromClient as Client
 use Rattle.cluster_msgs.specs.declared.events.Asker.{Asker}
 use Rattle.cluster_msgs.specs.declared.events.Asker.TheVariants.{Worker, Client}
 use Rattle.cluster_msgs.specs.declared.events.Event.{Event}
-use Rattle.cluster_msgs.specs.declared.events.Event.TheVariants.{Want, Release, SeeLoss, Suspect, DeliverDown, DeliverUp, DeliverToClient, DeliverFromClient, Start, Finish, SendGather, ServeGather, ArriveGather, FailGather, Balance, Evict, Spill, LoseSpilled}
+use Rattle.cluster_msgs.specs.declared.events.Event.TheVariants.{Want, Release, SeeLoss, Suspect, DeliverDown, DeliverUp, DeliverToClient, DeliverFromClient, Start, Finish, SendGather, ServeGather, ArriveGather, FailGather, Balance, Evict, Spill, LoseSpilled, Replicate}
 use Rattle.cluster_rules.specs.Functions.{put}
 use Rattle.cluster_rules.specs.Derived.{below}
 use Rattle.cluster_rules.specs.SchedStep.{Stepped, mail}
@@ -52,6 +52,10 @@ balance_is j w = only_scheduled w _
 pub evict_is : (j : Job) (w : World) → OnlyScheduler w (world_step j w Evict)
 unfolding world_step
 evict_is j w = only_scheduled w _
+
+pub replicate_is : (j : Job) (w : World) (k i : ℕ) → OnlyScheduler w (world_step j w (Replicate k i))
+unfolding world_step
+replicate_is j w k i = only_scheduled w _
 
 pub from_client_is : (j : Job) (w : World) (c : ℕ) (m : ClientMessage) (ms : List ClientMessage) → w.from_client c ≡ m ∷ ms → OnlyScheduler (record w { from_client = put w.from_client c ms }) (world_step j w (DeliverFromClient c))
 unfolding world_step

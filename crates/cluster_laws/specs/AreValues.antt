@@ -1,5 +1,5 @@
 -- Each block of a cluster is the value of its key.
-use Rattle.std.specs.Prelude.{◌≡◌, ℕ, Bool, true, false, List, Option, Some, None, is_some, map}
+use Rattle.std.specs.Prelude.{◌≡◌, ◌⊎◌, ℕ, Bool, true, false, List, Option, Some, None, is_some, map}
 use Rattle.std.specs.List.{AllByRecursion}
 use Rattle.cluster_msgs.specs.Values.{all_of, cone, faulty}
 use Rattle.cluster_laws.specs.Blocks.{Delivery, Cluster}
@@ -22,7 +22,7 @@ pub record AreValues {B : Type 0} (deps : ℕ → List ℕ) (value : ℕ → Opt
   pub answers : map (λ (d : Delivery B). d.parcel) c.blocks.carried ≡ c.world.answers
   pub carried : AllByRecursion (λ (d : Delivery B). AreOf value d.parcel.keys d.blocks) c.blocks.carried
 
--- a failure of k is blamed on b: that key's own operation meets a zero divisor, and k is it or depends on it
-pub record IsBlamed {B : Type 0} (deps : ℕ → List ℕ) (value : ℕ → Option B) (k b : ℕ) : Type 0 where
-  pub faulty : faulty deps value b ≡ true
+-- a failure of k is blamed on b: that key's own operation meets a zero divisor, or something else excuses it, and k is it or depends on it
+pub record IsBlamed {B : Type 0} (excused : ℕ → Type 0) (deps : ℕ → List ℕ) (value : ℕ → Option B) (k b : ℕ) : Type 0 where
+  pub fault : (faulty deps value b ≡ true) ⊎ excused b
   pub within : cone deps k b ≡ true

@@ -24,9 +24,9 @@ pub record Cluster (B : Type 0) : Type 0 where
 abbrev pub job_of : {B : Type 0} → Setting → (ℕ → List B → Option B) → Job
 job_of s op = record { setting = s; zero = λ k. is_none (val (deps_of s.shape) op k) }
 
--- a graph's setting, with so many clients and this saturation
-abbrev pub setting_of : Shape → ℕ → ℕ → Setting
-setting_of g clients saturation = record { shape = g; clients = clients; saturation = saturation; allowed = None }
+-- a graph's setting, with so many clients, this saturation and what is allowed
+abbrev pub setting_of : Shape → ℕ → ℕ → Option ℕ → Setting
+setting_of g clients saturation allowed = record { shape = g; clients = clients; saturation = saturation; allowed = allowed }
 
 -- no block is anywhere
 abbrev pub no_blocks : {B : Type 0} → Blocks B

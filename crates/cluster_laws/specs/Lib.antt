@@ -2,6 +2,7 @@ pub mod Order
 pub mod WorldFrame
 pub mod Truth
 pub mod Settled
+pub mod Losses
 pub mod Attempts
 pub mod Blocks
 pub mod Moves

@@ -1,6 +1,6 @@
 -- What holds of the scheduler's facts after every event, whoever sent it.
-use Rattle.std.specs.Prelude.{◌≡◌, ℕ, true, false, None, is_some}
-use Rattle.cluster_rules.specs.Sched.{Facts, holds, held, known, need, ready}
+use Rattle.std.specs.Prelude.{◌≡◌, ℕ, ◌+◌, ◌≤◌, true, false, Some, None, is_some}
+use Rattle.cluster_rules.specs.Sched.{Facts, holds, held, is_above, known, need, ready}
 use Rattle.cluster_rules.specs.Policies.{place}
 
 pub record IsSettled (f : Facts) : Type 0 where
@@ -15,5 +15,10 @@ pub record IsSettled (f : Facts) : Type 0 where
   -- an error is remembered only of a known key that nobody holds
   pub errors_are_known : (k : ℕ) → f.bad k ≡ true → known f k ≡ true
   pub errors_are_not_held : (k : ℕ) → f.bad k ≡ true → held f k ≡ false
+  -- losses are counted only of a known key
+  pub losses_are_known : (k : ℕ) → known f k ≡ false → f.losses k ≡ 0
+  -- a key with more losses than are allowed is an error, and was assigned to nobody since
+  pub killed_are_errors : (k : ℕ) → is_above f.setting.allowed (f.losses k) ≡ true → f.bad k ≡ true
+  pub losses_stop : (k a : ℕ) → f.setting.allowed ≡ Some a → f.losses k ≤ a + 1
   -- a ready key that was given to nobody has no worker that could take it
   pub waiting_have_no_place : (k : ℕ) → ready f k ≡ true → f.on k ≡ None → place f k ≡ None

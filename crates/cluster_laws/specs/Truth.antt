@@ -1,5 +1,5 @@
 -- What is true of blocks and failures, at each worker, on each link and at each client.
-use Rattle.std.specs.Prelude.{◌≡◌, ◌⊎◌, ℕ, Bool, true, false, not, ◌&&◌, List, Some}
+use Rattle.std.specs.Prelude.{◌≡◌, ◌⊎◌, ℕ, ◌+◌, Bool, true, false, not, ◌&&◌, List, Some}
 use Rattle.std.specs.List.{list_all, AllByRecursion}
 use Rattle.cluster_msgs.specs.Shape.{deps_of}
 use Rattle.cluster_msgs.specs.Values.{cone}
@@ -12,8 +12,9 @@ use Rattle.cluster_msgs.specs.declared.cores.WorkerEvent.TheVariants.{Down as To
 use Rattle.cluster_msgs.specs.declared.cores.ClientEvent.{ClientEvent}
 use Rattle.cluster_msgs.specs.declared.cores.ClientEvent.TheVariants.{Want, Release, FromScheduler, Ask as ClientAsk, Gathered as ClientGathered, GatherFailed as ClientGatherFailed}
 use Rattle.cluster_msgs.specs.declared.cores.SchedEvent.{SchedEvent}
-use Rattle.cluster_msgs.specs.declared.cores.SchedEvent.TheVariants.{Join, Leave, FromWorker, FromClient, Balance, Evict}
-use Rattle.cluster_rules.specs.Sched.{Facts}
+use Rattle.cluster_msgs.specs.declared.cores.SchedEvent.TheVariants.{Join, Leave, FromWorker, FromClient, Balance, Evict, Replicate}
+use Rattle.cluster_rules.specs.Sched.{Facts, is_on, is_above, known}
+use Rattle.cluster_rules.specs.SchedTable.{left}
 use Rattle.cluster_rules.specs.Worker.{WorkerFacts}
 use Rattle.cluster_rules.specs.Client.{ClientFacts}
 use Rattle.cluster_rules.specs.World.{Job, World, Parcel}
@@ -27,12 +28,16 @@ abbrev pub faulty_key : Job → ℕ → Bool
 faulty_key j k = has_inputs j k && j.zero k
 
 -- a key that may count as erred by itself: its own operation meets a zero divisor, or something else excuses it. What
--- does is a parameter here, and no proof that carries it along looks into it; nothing does until losses are counted
+-- does is a parameter here, and no proof that carries it along looks into it: that it was killed, or nothing
 abbrev pub MayErr : (ℕ → Type 0) → Job → ℕ → Type 0
 MayErr excused j k = (faulty_key j k ≡ true) ⊎ excused k
 
 abbrev pub no_excuse : ℕ → Type 0
 no_excuse k = ⊥
+
+-- where it doesn't matter what excuses an error
+abbrev pub anything : ℕ → Type 0
+anything k = Unit {0}
 
 -- a failure of k is blamed on b: that key may err, and k is it or depends on it
 pub record IsBlame (excused : ℕ → Type 0) (j : Job) (k b : ℕ) : Type 0 where
@@ -111,3 +116,10 @@ IsTrueSchedEvent j (Leave w) = Unit {0}
 IsTrueSchedEvent j (FromClient c msg) = Unit {0}
 IsTrueSchedEvent j Balance = Unit {0}
 IsTrueSchedEvent j Evict = Unit {0}
+IsTrueSchedEvent j (Replicate k w) = Unit {0}
+
+-- worker i's leaving makes the key a killed one: it was assigned to i, and with this loss it has more than are allowed
+pub record IsKilledBy (f : Facts) (i k : ℕ) : Type 0 where
+  pub on : is_on f i k ≡ true
+  pub above : is_above f.setting.allowed (f.losses k + 1) ≡ true
+  pub known : known (left f i) k ≡ true

@@ -1,6 +1,6 @@
 //! Laws of the scheduler. Each is the contract of a function with an empty body.
 ghost use Rattle.std.specs.Prelude.{◌≡◌, ℕ, Bool, List, ◌<◌, ◌≤◌, ◌^◌, ◌*◌, ◌+◌};
-ghost use Rattle.std.specs.Prelude.{true, false, not, ◌++◌, [], ◌&&◌, ◌||◌, is_some};
+ghost use Rattle.std.specs.Prelude.{true, false, cond, Some, not, ◌++◌, [], ◌&&◌, ◌||◌, is_some};
 ghost use Rattle.std.specs.List.{list_any, Contains};
 ghost use Rattle.cluster_msgs.specs.Shape.{IsShape};
 ghost use Rattle.cluster_msgs.specs.declared.cores.Steal.{Steal};
@@ -13,6 +13,8 @@ ghost use Rattle.cluster_laws.specs.Order.{Ascends, IsToldBefore, task_key};
 ghost use Rattle.cluster_rules.specs.SchedTable.{change, sched_takes};
 ghost use Rattle.cluster_rules.specs.SchedStep.{sched_step, settle, down_messages, client_messages, to_clients, mail, free_message, lost_keys, task_messages};
 ghost use Rattle.cluster_laws.specs.Settled.{IsSettled};
+ghost use Rattle.cluster_laws.specs.Losses.{AreFew};
+ghost use Rattle.cluster_rules.specs.Runs.{loses};
 ghost use Rattle.cluster_laws.specs.Attempts.{AttemptsEndForACause};
 ghost use Rattle.cluster_rules.specs.Derived.{IsBelow, below, is_in, err, reach, err_step, reach_step};
 
@@ -123,6 +125,12 @@ pub fn sums_fit()
     ensures bytes { (f : SchedFacts) (w : ℕ) → IsSound f → bytes_held f w ≤ 2 ^ 42 }
 {}
 
+/// A key loses each worker at most once: its losses and the workers that are connected are no more than ever joined.
+pub fn losses_are_few()
+    ensures opening { (c : Setting) → AreFew (sched_opening c) }
+    ensures event { (f : SchedFacts) → IsSound f → (e : SchedEvent) → sched_takes f e ≡ true → AreFew f → AreFew (sched_step f e).facts }
+{}
+
 /// The opening facts have settled, and each event that is taken leaves facts that have settled, whoever sent it.
 pub fn facts_stay_settled()
     ensures opening { (c : Setting) → IsSettled (sched_opening c) }
@@ -134,4 +142,11 @@ pub fn facts_stay_settled()
 /// free-keys with the key.
 pub fn attempts_end_for_a_cause()
     ensures { (f : SchedFacts) (e : SchedEvent) → IsSound f → sched_takes f e ≡ true → AttemptsEndForACause f e (sched_step f e).facts }
+{}
+
+/// After an event a key that is known has one loss more where the event took that its worker leaves, and a key that is
+/// not known has none.
+pub fn losses_of_an_event()
+    ensures { (f : SchedFacts) (e : SchedEvent) (k : ℕ) → (sched_step f e).facts.losses k ≡
+        cond (known (sched_step f e).facts k) (cond (loses f k (Some e)) (f.losses k + 1) (f.losses k)) 0 }
 {}

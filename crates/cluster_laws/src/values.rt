@@ -5,7 +5,7 @@ ghost use Rattle.cluster_msgs.specs.Shape.{IsShape, deps_of};
 ghost use Rattle.cluster_msgs.specs.Values.{val};
 ghost use Rattle.cluster_msgs.specs.declared.events.Event.{Event};
 ghost use Rattle.cluster_rules.specs.Sched.{Setting};
-ghost use Rattle.cluster_rules.specs.Runs.{legal, reached};
+ghost use Rattle.cluster_rules.specs.Runs.{legal, reached, WasKilled};
 ghost use Rattle.cluster_laws.specs.Blocks.{job_of, setting_of, opening_cluster};
 ghost use Rattle.cluster_laws.specs.Moves.{cluster_run, LegalWithBlocks};
 ghost use Rattle.cluster_laws.specs.AreValues.{AreValues, IsBlamed};
@@ -25,18 +25,19 @@ pub fn blocks_are_values<B>()
 {}
 
 /// For any job: by any legal list of events, each block that a client got is the value of its key, it has one for each
-/// key that it counts as got, and each failure that it was told of is blamed on a faulty key in the cone of its key.
+/// key that it counts as got, and each failure that it was told of is blamed on a key in the cone of its key that is
+/// faulty, or that was killed at some place in the list.
 pub fn clients_get_values<J: JobSpec>(job: &J)
-    ensures got { IsShape (J.graph job.now) → (clients saturation : ℕ) → let s = setting_of (J.graph job.now) clients saturation in
+    ensures got { IsShape (J.graph job.now) → (clients saturation : ℕ) (allowed : Option ℕ) → let s = setting_of (J.graph job.now) clients saturation allowed in
         (es : List Event) → legal (job_of s (J.operation job.now)) es → (c k : ℕ) (b : J.Block) →
         (cluster_run (J.operation job.now) (opening_cluster s (J.operation job.now)) es).blocks.got c k ≡ Some b →
         val (deps_of (J.graph job.now)) (J.operation job.now) k ≡ Some b }
-    ensures all { IsShape (J.graph job.now) → (clients saturation : ℕ) → let s = setting_of (J.graph job.now) clients saturation in
+    ensures all { IsShape (J.graph job.now) → (clients saturation : ℕ) (allowed : Option ℕ) → let s = setting_of (J.graph job.now) clients saturation allowed in
         (es : List Event) → legal (job_of s (J.operation job.now)) es → (c k : ℕ) →
         ((reached (job_of s (J.operation job.now)) es).clients c).got k ≡ true →
         is_some ((cluster_run (J.operation job.now) (opening_cluster s (J.operation job.now)) es).blocks.got c k) ≡ true }
-    ensures failed { IsShape (J.graph job.now) → (clients saturation : ℕ) → let s = setting_of (J.graph job.now) clients saturation in
+    ensures failed { IsShape (J.graph job.now) → (clients saturation : ℕ) (allowed : Option ℕ) → let s = setting_of (J.graph job.now) clients saturation allowed in
         (es : List Event) → legal (job_of s (J.operation job.now)) es → (c k b : ℕ) →
         ((reached (job_of s (J.operation job.now)) es).clients c).failed k ≡ Some b →
-        IsBlamed (deps_of (J.graph job.now)) (val (deps_of (J.graph job.now)) (J.operation job.now)) k b }
+        IsBlamed (WasKilled (job_of s (J.operation job.now)) es) (deps_of (J.graph job.now)) (val (deps_of (J.graph job.now)) (J.operation job.now)) k b }
 {}

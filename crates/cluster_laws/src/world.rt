@@ -1,26 +1,27 @@
 //! Laws of the world. Each is a function with an empty body.
-ghost use Rattle.std.specs.Prelude.{◌≡◌, ◌&&◌, not, is_some, ◌∷◌, ℕ, true, false, List, Some, slice_get};
+ghost use Rattle.std.specs.Prelude.{◌≡◌, ◌&&◌, not, is_some, ◌∷◌, ℕ, true, false, List, Some, None, slice_get};
 ghost use Rattle.cluster_msgs.specs.declared.messages.Down.{Down};
 ghost use Rattle.cluster_msgs.specs.declared.messages.Up.{Up};
 ghost use Rattle.cluster_msgs.specs.declared.messages.ToClient.{ToClient};
 ghost use Rattle.cluster_msgs.specs.declared.messages.FromClient.{FromClient};
 ghost use Rattle.cluster_msgs.specs.declared.events.Asker.TheVariants.{Worker, Client};
 ghost use Rattle.cluster_msgs.specs.declared.events.Event.{Event};
-ghost use Rattle.cluster_msgs.specs.declared.events.Event.TheVariants.{Want, Release, Join, Lose, SeeLoss, Suspect, DeliverDown, DeliverUp, DeliverToClient, DeliverFromClient, Start, Finish, SendGather, ServeGather, ArriveGather, FailGather, Balance, Evict, Spill, LoseSpilled};
+ghost use Rattle.cluster_msgs.specs.declared.events.Event.TheVariants.{Want, Release, Join, Lose, SeeLoss, Suspect, DeliverDown, DeliverUp, DeliverToClient, DeliverFromClient, Start, Finish, SendGather, ServeGather, ArriveGather, FailGather, Balance, Evict, Replicate, Spill, LoseSpilled};
 ghost use Rattle.cluster_msgs.specs.declared.events.Asker.{Asker};
-ghost use Rattle.cluster_msgs.specs.declared.cores.SchedEvent.TheVariants.{Join as JoinSched, Balance as BalanceSched, Evict as EvictSched};
+ghost use Rattle.cluster_msgs.specs.declared.cores.SchedEvent.TheVariants.{Join as JoinSched, Balance as BalanceSched, Evict as EvictSched, Replicate as ReplicateSched};
 ghost use Rattle.cluster_rules.specs.SchedTable.{sched_takes, up_keys};
 ghost use Rattle.cluster_rules.specs.Functions.{put};
+ghost use Rattle.cluster_rules.specs.Sched.{is_above};
 ghost use Rattle.cluster_rules.specs.Worker.{has_any, would_start, WorkerFacts};
-ghost use Rattle.cluster_rules.specs.World.{Job, World, is_connected, is_client, is_asker, open_ask, parcel_of};
+ghost use Rattle.cluster_rules.specs.World.{Job, World, opening, is_connected, is_client, is_asker, open_ask, parcel_of};
 ghost use Rattle.std.specs.List.{AllByRecursion};
 ghost use Rattle.cluster_msgs.specs.Shape.{Shape, IsShape};
 ghost use Rattle.cluster_msgs.specs.declared.cores.WorkerEvent.TheVariants.{Down as Told};
 ghost use Rattle.cluster_rules.specs.Inside.{AreKeys, down_keys, IsInsideWorker, IsInsideWorld};
-ghost use Rattle.cluster_rules.specs.Runs.{legal, reached};
+ghost use Rattle.cluster_rules.specs.Runs.{legal, reached, losses_from, killed, WasKilled};
 ghost use Rattle.cluster_msgs.specs.declared.cores.WorkerEvent.{WorkerEvent};
 ghost use Rattle.cluster_rules.specs.WorkerStep.{worker_step, worker_takes};
-ghost use Rattle.cluster_laws.specs.Truth.{no_excuse, IsTrueWorker, IsTrueEvent, IsTrueUp, IsTrueWorld, IsBlame};
+ghost use Rattle.cluster_laws.specs.Truth.{IsTrueWorker, IsTrueEvent, IsTrueUp, IsTrueWorld, IsBlame};
 ghost use Rattle.cluster_rules.specs.WorldStep.{world_step, sends};
 ghost use Rattle.cluster_rules.specs.Enabled.{enabled, progress, are_named, may_ask};
 ghost use Rattle.cluster_laws.specs.WorldFrame.{OnlyScheduler, OnlyWorker, OnlyClient, NothingMoves};
@@ -31,12 +32,13 @@ pub fn progress_is_what_moves()
     ensures none { (w : World) → has_any (progress w) ≡ false → NothingMoves w }
 {}
 
-/// Balance and Evict, a worker that is suspected, and a client's message are the scheduler's alone. A delivery takes the
+/// Balance, Evict and Replicate, a worker that is suspected, and a client's message are the scheduler's alone. A delivery takes the
 /// first message of its link.
 pub fn the_schedulers_events()
     ensures suspect { (j : Job) (w : World) (i : ℕ) → OnlyScheduler w (world_step j w (Suspect i)) }
     ensures balance { (j : Job) (w : World) → OnlyScheduler w (world_step j w Balance) }
     ensures evict { (j : Job) (w : World) → OnlyScheduler w (world_step j w Evict) }
+    ensures replicate { (j : Job) (w : World) (k i : ℕ) → OnlyScheduler w (world_step j w (Replicate k i)) }
     ensures from_client { (j : Job) (w : World) (c : ℕ) (m : FromClient) (ms : List FromClient) → w.from_client c ≡ m ∷ ms →
         OnlyScheduler (record w { from_client = put w.from_client c ms }) (world_step j w (DeliverFromClient c)) }
     ensures up { (j : Job) (w : World) (i : ℕ) (m : Up) (ms : List Up) → w.up i ≡ m ∷ ms → is_connected w i ≡ true →
@@ -88,6 +90,7 @@ pub fn where_events_are_enabled()
     ensures fail { (w : World) (a : Asker) (p : ℕ) → enabled w (FailGather a p) ≡ (is_asker w a && is_some (open_ask w a p)) }
     ensures balance { (w : World) → enabled w Balance ≡ sched_takes w.sched BalanceSched }
     ensures evict { (w : World) → enabled w Evict ≡ sched_takes w.sched EvictSched }
+    ensures replicate { (w : World) (k i : ℕ) → enabled w (Replicate k i) ≡ sched_takes w.sched (ReplicateSched k i) }
     ensures spill { (w : World) (i k : ℕ) → enabled w (Spill i k) ≡ (w.alive i && ((w.workers i).mem k && not (w.spilled i k))) }
     ensures lose_spilled { (w : World) (i k : ℕ) → enabled w (LoseSpilled i k) ≡ (w.alive i && w.spilled i k) }
 {}
@@ -99,13 +102,22 @@ pub fn a_workers_blocks_are_true()
 {}
 
 /// After each legal list of events of a job whose graph is one, each block that a client got is of a key with a value,
-/// and each failure that it was told is blamed on a faulty key in the cone of its key.
+/// and each failure that it was told is blamed on a key in the cone of its key that is faulty, or that was killed at some
+/// place in the list.
 pub fn values_of_legal_lists()
-    ensures world { (j : Job) → IsShape j.setting.shape → (es : List Event) → legal j es → IsTrueWorld no_excuse j (reached j es) }
+    ensures world { (j : Job) → IsShape j.setting.shape → (es : List Event) → legal j es → IsTrueWorld (WasKilled j es) j (reached j es) }
     ensures got { (j : Job) → IsShape j.setting.shape → (es : List Event) → legal j es → (c k : ℕ) →
         ((reached j es).clients c).got k ≡ true → j.zero k ≡ false }
     ensures failed { (j : Job) → IsShape j.setting.shape → (es : List Event) → legal j es → (c k b : ℕ) →
-        ((reached j es).clients c).failed k ≡ Some b → IsBlame no_excuse j k b }
+        ((reached j es).clients c).failed k ≡ Some b → IsBlame (WasKilled j es) j k b }
+{}
+
+/// The scheduler's losses of a key are as many as the list of events tells, whatever the list. So where no number is
+/// allowed nothing is ever killed.
+pub fn losses_are_counted()
+    ensures losses { (j : Job) (es : List Event) (k : ℕ) → (reached j es).sched.losses k ≡ losses_from j (opening j) 0 es k }
+    ensures killed { (j : Job) (es : List Event) (k : ℕ) → killed j es k ≡ is_above j.setting.allowed ((reached j es).sched.losses k) }
+    ensures unbounded { (j : Job) (es : List Event) (k : ℕ) → j.setting.allowed ≡ None → WasKilled j es k → ⊥ }
 {}
 
 /// A worker that is told of keys of the graph alone names no other key.

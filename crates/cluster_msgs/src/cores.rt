@@ -48,6 +48,8 @@ pub enum SchedEvent {
     FromClient { c: u32, msg: FromClient },
     Balance,
     Evict,
+    /// Worker `w` is to get a copy of the key.
+    Replicate { key: u32, w: u32 },
 }
 
 /// What the scheduler has to send: messages with their worker or client, and the numbers of the workers that joined.

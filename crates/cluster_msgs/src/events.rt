@@ -33,6 +33,7 @@ pub enum Event {
     FailGather { asker: Asker, peer: u32 },
     Balance,
     Evict,
+    Replicate { key: u32, worker: u32 },
     Spill { worker: u32, key: u32 },
     LoseSpilled { worker: u32, key: u32 },
 }
@@ -126,6 +127,10 @@ impl Event {
             },
             Event::Balance => Event::Balance,
             Event::Evict => Event::Evict,
+            Event::Replicate { key, worker } => Event::Replicate {
+                key: *key,
+                worker: *worker,
+            },
             Event::Spill { worker, key } => Event::Spill {
                 worker: *worker,
                 key: *key,

@@ -54,6 +54,7 @@ both_hold = record {
   on = None ∷ None ∷ None ∷ [];
   steal = None ∷ None ∷ None ∷ [];
   bad = false ∷ false ∷ false ∷ [];
+  losses = 0 ∷ 0 ∷ 0 ∷ [];
   counter = 9;
   finishes = 4;
 }
@@ -107,6 +108,7 @@ busy = record {
   on = None ∷ Some (1, 4) ∷ Some (2, 2) ∷ [];
   steal = None ∷ None ∷ None ∷ [];
   bad = false ∷ false ∷ false ∷ [];
+  losses = 0 ∷ 0 ∷ 0 ∷ [];
   counter = 5;
   finishes = 1;
 }
@@ -142,6 +144,7 @@ asked = record {
   on = Some (1, 1) ∷ Some (1, 2) ∷ None ∷ [];
   steal = Some (2, false) ∷ None ∷ None ∷ [];
   bad = false ∷ false ∷ false ∷ [];
+  losses = 0 ∷ 0 ∷ 0 ∷ [];
   counter = 5;
   finishes = 1;
 }
@@ -167,6 +170,7 @@ uneven = record {
   on = Some (1, 1) ∷ Some (1, 2) ∷ [];
   steal = None ∷ None ∷ [];
   bad = false ∷ false ∷ [];
+  losses = 0 ∷ 0 ∷ [];
   counter = 3;
   finishes = 0;
 }
@@ -186,6 +190,7 @@ apart place = record {
   on = None ∷ None ∷ None ∷ place ∷ [];
   steal = None ∷ None ∷ None ∷ None ∷ [];
   bad = false ∷ false ∷ false ∷ false ∷ [];
+  losses = 0 ∷ 0 ∷ 0 ∷ 0 ∷ [];
   counter = 6;
   finishes = 2;
 }
@@ -212,6 +217,7 @@ two_and_one = record {
   on = Some (1, 1) ∷ Some (1, 2) ∷ Some (2, 3) ∷ [];
   steal = None ∷ None ∷ None ∷ [];
   bad = false ∷ false ∷ false ∷ [];
+  losses = 0 ∷ 0 ∷ 0 ∷ [];
   counter = 4;
   finishes = 0;
 }
@@ -236,6 +242,7 @@ busy_holders = record {
   on = None ∷ None ∷ None ∷ Some (1, 5) ∷ Some (2, 6) ∷ [];
   steal = None ∷ None ∷ None ∷ None ∷ None ∷ [];
   bad = false ∷ false ∷ false ∷ false ∷ false ∷ [];
+  losses = 0 ∷ 0 ∷ 0 ∷ 0 ∷ 0 ∷ [];
   counter = 20;
   finishes = 2;
 }
@@ -255,6 +262,15 @@ two_copies other = record {
   on = None ∷ None ∷ [];
   steal = None ∷ None ∷ [];
   bad = false ∷ false ∷ [];
+  losses = 0 ∷ 0 ∷ [];
   counter = 20;
   finishes = 2;
 }
+
+-- a setting in which a key's worker may leave this often while the key is assigned to it
+abbrev pub allowing : Option ℕ → Setting → Setting
+allowing a s = record s { allowed = a }
+
+-- the busy world where this is allowed: worker 1 holds key 0 and has key 1, worker 2 has key 2
+abbrev pub busy_allowing : Option ℕ → Facts
+busy_allowing a = facts_of (allowing a chain) busy

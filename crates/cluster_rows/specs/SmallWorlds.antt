@@ -5,9 +5,9 @@ use Rattle.cluster_msgs.specs.declared.cores.WState.{WState}
 use Rattle.cluster_msgs.specs.declared.events.Asker.{Asker}
 use Rattle.cluster_msgs.specs.declared.events.Asker.TheVariants.{Worker, Client}
 use Rattle.cluster_msgs.specs.declared.events.Event.{Event}
-use Rattle.cluster_msgs.specs.declared.events.Event.TheVariants.{Want, Join, Lose, SeeLoss, DeliverDown, DeliverUp, DeliverToClient, DeliverFromClient, Start, Finish, SendGather, ServeGather, ArriveGather, Suspect, Balance}
+use Rattle.cluster_msgs.specs.declared.events.Event.TheVariants.{Want, Join, Lose, SeeLoss, DeliverDown, DeliverUp, DeliverToClient, DeliverFromClient, Start, Finish, SendGather, ServeGather, ArriveGather, Suspect, Balance, Replicate}
 use Rattle.cluster_msgs.specs.declared.events.Item.{Item}
-use Rattle.cluster_msgs.specs.declared.events.Item.TheVariants.{Lose as LoseItem}
+use Rattle.cluster_msgs.specs.declared.events.Item.TheVariants.{Lose as LoseItem, Suspect as SuspectItem}
 use Rattle.cluster_msgs.specs.declared.events.Report.{Report}
 use Rattle.cluster_rules.specs.Sched.{sched_opening}
 use Rattle.cluster_rules.specs.Worker.{WorkerFacts, would_start}
@@ -234,3 +234,21 @@ standing j es script turns budget = record { world = reached j es; script = scri
 -- what comes next there
 abbrev pub comes : Sim → Next
 comes s = next (λ t. 0) (plan 2) s
+
+-- a plain job in which a key's worker may leave this often while the key is assigned to it
+abbrev pub bounded_job : Option ℕ → Shape → Job
+bounded_job a g = record { setting = record { shape = g; clients = 1; saturation = 11; allowed = a }; zero = λ k. false }
+
+-- worker 1 ends the first of two keys and is suspected; where a loss is allowed, worker 2 does both
+abbrev pub suspected_at_one : Plan
+suspected_at_one = record { workers = 2; threads = 1; script = SuspectItem 1 1 ∷ [] }
+
+abbrev pub suspected_start : List Event
+suspected_start = DeliverFromClient 1 ∷ DeliverDown 1 ∷ Start 1 ∷ Finish 1 0 ∷ DeliverUp 1 ∷ Suspect 1 ∷ []
+
+abbrev pub done_by_two : List Event
+done_by_two = DeliverDown 2 ∷ Start 2 ∷ Finish 2 0 ∷ DeliverUp 2 ∷ DeliverDown 2 ∷ Start 2 ∷ Finish 2 1 ∷ DeliverUp 2 ∷ []
+
+-- worker 2 is asked to get a copy of the key that worker 1 made, and gets it
+abbrev pub copied : List Event
+copied = both_made ++ Replicate 0 2 ∷ DeliverDown 2 ∷ SendGather (Worker 2) 1 ∷ ServeGather 1 (Worker 2) 1 ∷ ArriveGather (Worker 2) 1 1 ∷ []

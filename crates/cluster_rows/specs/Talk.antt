@@ -22,6 +22,7 @@ pub record Table : Type 0 where
   pub on : List (Option (ℕ × ℕ))
   pub steal : List (Option (ℕ × Bool))
   pub bad : List Bool
+  pub losses : List ℕ
   pub counter : ℕ
   pub finishes : ℕ
 
@@ -38,6 +39,7 @@ table f = record {
   on = by_key f f.on;
   steal = by_key f f.steal;
   bad = by_key f f.bad;
+  losses = by_key f f.losses;
   counter = f.counter;
   finishes = f.finishes;
 }
@@ -58,6 +60,7 @@ facts_of s t = record {
   on = λ k. slice_index_or t.on k None;
   steal = λ k. slice_index_or t.steal k None;
   bad = λ k. slice_index_or t.bad k false;
+  losses = λ k. slice_index_or t.losses k 0;
   threads = λ w. (numbered t.workers w nobody).threads;
   sent = λ w. (numbered t.workers w nobody).sent;
   fence = λ w k. slice_index_or (numbered t.workers w nobody).fence k 0;

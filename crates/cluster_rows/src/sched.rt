@@ -3,6 +3,7 @@
 
 pub mod clients;
 pub mod derived;
+pub mod killed;
 pub mod replicas;
 pub mod steals;
 pub mod tasks;

@@ -9,14 +9,14 @@ use Rattle.cluster_msgs.specs.Dags.{IsEarlier}
 use Rattle.cluster_msgs.proofs.ValueLemmas.{cone-below}
 use Rattle.cluster_msgs.specs.Shape.{Shape, IsShape, key_count, deps_of}
 use Rattle.cluster_msgs.specs.declared.messages.Down.{Down}
-use Rattle.cluster_msgs.specs.declared.messages.Down.TheVariants.{ComputeTask, StealRequest, RemoveReplicas, RefreshWhoHas}
+use Rattle.cluster_msgs.specs.declared.messages.Down.TheVariants.{ComputeTask, StealRequest, RemoveReplicas, AcquireReplicas, RefreshWhoHas}
 use Rattle.cluster_msgs.specs.declared.messages.Up.TheVariants.{TaskFinished, TaskErred, AddKeys, ReleaseWorkerData, MissingData, RequestRefreshWhoHas, StealResponse}
 use Rattle.cluster_msgs.specs.declared.messages.ToClient.{ToClient}
 use Rattle.cluster_msgs.specs.declared.messages.ToClient.TheVariants.{KeyInMemory, LostData, ClientTaskErred}
 use Rattle.cluster_msgs.specs.declared.messages.FromClient.TheVariants.{Want as WantMessage, Release as ReleaseMessage, Missing as MissingMessage}
 use Rattle.cluster_msgs.specs.declared.cores.Steal.{Steal}
 use Rattle.cluster_msgs.specs.declared.cores.SchedEvent.{SchedEvent}
-use Rattle.cluster_msgs.specs.declared.cores.SchedEvent.TheVariants.{Join, Leave, FromWorker, FromClient, Balance, Evict}
+use Rattle.cluster_msgs.specs.declared.cores.SchedEvent.TheVariants.{Join, Leave, FromWorker, FromClient, Balance, Evict, Replicate}
 use Rattle.cluster_msgs.specs.declared.cores.ClientInstruction.{ClientInstruction}
 use Rattle.cluster_msgs.specs.declared.cores.ClientInstruction.TheVariants.{Send, Gather}
 use Rattle.cluster_msgs.specs.declared.cores.ClientEvent.{ClientEvent}
@@ -70,6 +70,7 @@ module _ (g : Shape) (low : IsShape g) where
   IsInsideSched (Leave w) = Unit {0}
   IsInsideSched Balance = Unit {0}
   IsInsideSched Evict = Unit {0}
+  IsInsideSched (Replicate k w) = IsKey g k
 
   all_keys : (f : Facts) → f.setting.shape ≡ g → AreKeys g (below (keys f))
   all_keys f s = subst (λ (x : Shape). AreKeys g (below (key_count x))) (sym s) (keys_below g)
@@ -79,6 +80,11 @@ module _ (g : Shape) (low : IsShape g) where
   unfolding who_has
   refresh_in h k v true = ((v, tt), tt)
   refresh_in h k v false = tt
+
+  acquire_in : (h : Facts) (k : ℕ) → IsKey g k → (b : Bool) → AllDown (cond b (AcquireReplicas (who_has h (k ∷ [])) ∷ []) [])
+  unfolding who_has
+  acquire_in h k v true = ((v, tt), tt)
+  acquire_in h k v false = tt
 
   add_key_quiet : (h : Facts) (u w seen : ℕ) (c : Changed) (k : ℕ) → AllDown (c.answer h u) → AllDown ((add_key w seen c k).answer h u)
   add_key_quiet h u w seen c k r = by (nat_le (c.facts.fence w k) seen) (holds c.facts w k) (held c.facts k) (is_on c.facts w k)
@@ -167,6 +173,7 @@ module _ (g : Shape) (low : IsShape g) where
   answer_in f (FromClient c (MissingMessage k x copy)) s v h u = lost_copy_quiet h u f x k copy
   answer_in f Balance s v h u = balance_in h u f (next_steal f) (steal_key f s)
   answer_in f Evict s v h u = evict_in h u f (next_drop f) (drop_key f s)
+  answer_in f (Replicate k w) s v h u = acquire_in h k v (u == w)
 
   -- the messages to workers
   deps_in : (k : ℕ) → IsKey g k → AreKeys g (deps_of g k)
@@ -297,6 +304,7 @@ module _ (g : Shape) (low : IsShape g) where
       by (FromClient c (MissingMessage k x copy)) v r = named c k v.0 r
       by Balance v r = absurd (none _ (balanced_silent f (next_steal f)) r)
       by Evict v r = absurd (none _ (evicted_silent f (next_drop f)) r)
+      by (Replicate k w) v r = absurd (none _ refl r)
 
   pub news_in : (j : Job) (f : Facts) (e : SchedEvent) → f.setting.shape ≡ g → (change f e).facts.setting ≡ f.setting → IsInsideSched e → AllByRecursion (λ (m : ℕ × ToClient). AreKeys g (news_keys m.1)) (sched_step f e).clients
   unfolding sched_step finish_step posted client_messages to_clients settle

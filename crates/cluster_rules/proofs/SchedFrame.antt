@@ -6,7 +6,7 @@ use Rattle.std.proofs.Math.Dec.{eqb}
 use Rattle.std.proofs.Math.Bool.{or-true}
 use Rattle.std.proofs.lemmas.Option.{none-some}
 use Rattle.small_facts.proofs.Options.{same_second}
-use Rattle.small_facts.proofs.Truth.{and_second, cond_else_false}
+use Rattle.small_facts.proofs.Truth.{and_second}
 use Rattle.cluster_msgs.specs.declared.messages.Down.{Down}
 use Rattle.cluster_msgs.specs.declared.cores.SchedEvent.{SchedEvent}
 use Rattle.cluster_rules.specs.Derived.{below, is_in}
@@ -19,6 +19,7 @@ use Rattle.cluster_rules.specs.Frame.{IsSettling}
 -- from f the placements lead to g: only places and the counter change, and a new place has a new attempt
 pub record IsPlacing (f g : Facts) : Type 0 where
   pub bad : g.bad ≡ f.bad
+  pub losses : g.losses ≡ f.losses
   pub has : g.has ≡ f.has
   pub counter : f.counter ≤ g.counter
   pub on : (k w a : ℕ) → g.on k ≡ Some (w, a) → (f.on k ≡ Some (w, a)) ⊎ ((f.counter ≤ a) × (a < g.counter))
@@ -33,14 +34,14 @@ pub record IsPlacing (f g : Facts) : Type 0 where
   pub fence : g.fence ≡ f.fence
 
 placing_none : (f : Facts) → IsPlacing f f
-placing_none f = record { bad = refl; has = refl; counter = omega arith; on = λ k w a h. inl h; stays = λ k p h. h; threads = refl; last_worker = refl; setting = refl; want = refl; steal = refl; finishes = refl; sent = refl; fence = refl }
+placing_none f = record { bad = refl; losses = refl; has = refl; counter = omega arith; on = λ k w a h. inl h; stays = λ k p h. h; threads = refl; last_worker = refl; setting = refl; want = refl; steal = refl; finishes = refl; sent = refl; fence = refl }
 
 none_is_not : {A : Type 0} (o : Option A) (p : A) → is_none o ≡ true → o ≡ Some p → ⊥
 none_is_not None p e h = none-some p h
 none_is_not (Some x) p e h = false≢true e
 
 placing_give : (f : Facts) (k w : ℕ) → is_none (f.on k) ≡ true → IsPlacing f (give f k (Some w))
-placing_give f k w free = record { bad = refl; has = refl; counter = omega arith; on = λ j v a h. pick j v a (eqb j k) h; stays = λ j p h. stay j p (eqb j k) refl h; threads = refl; last_worker = refl; setting = refl; want = refl; steal = refl; finishes = refl; sent = refl; fence = refl }
+placing_give f k w free = record { bad = refl; losses = refl; has = refl; counter = omega arith; on = λ j v a h. pick j v a (eqb j k) h; stays = λ j p h. stay j p (eqb j k) refl h; threads = refl; last_worker = refl; setting = refl; want = refl; steal = refl; finishes = refl; sent = refl; fence = refl }
   where
     pick : (j v a : ℕ) (b : Bool) → cond b (Some (w, f.counter)) (f.on j) ≡ Some (v, a) → (f.on j ≡ Some (v, a)) ⊎ ((f.counter ≤ a) × (a < f.counter + 1))
     pick j v a true h = let e : f.counter ≡ a = same_second (w, f.counter) (v, a) h in inr (omega arith, omega arith)
@@ -62,6 +63,7 @@ placing_one f k = pick (ready f k && is_none (f.on k)) (place f k) refl
 placing_then : (f g h : Facts) → IsPlacing f g → IsPlacing g h → IsPlacing f h
 placing_then f g h p q = record {
   bad = q.bad ∙ p.bad;
+  losses = q.losses ∙ p.losses;
   has = q.has ∙ p.has;
   counter = omega (arith, p.counter, q.counter);
   on = λ k w a e. ⊎_elim
@@ -150,7 +152,8 @@ settling f g =
       threads = p.threads;
       last_worker = p.last_worker;
       finishes = p.finishes;
-      bad = λ k e. cond_else_false (known g.facts k) (g.facts.bad k) (ap (λ b. b k) (sym p.bad) ∙ e);
+      bad = λ k e. both (known g.facts k) (g.facts.bad k) (ap (λ b. b k) (sym p.bad) ∙ e);
+      losses = λ k. ap (λ n. n k) p.losses;
       has = λ w k c e. only_some (need (drop_bad g.facts) k) (g.facts.has w k) c (ap (λ h. h w k) (sym p.has) ∙ e);
       counter = p.counter;
       on = λ k w a e. ⊎_elim (λ i. inl (only_some (ready (drop_has (drop_bad g.facts)) k) (g.facts.on k) (w, a) i)) (λ n. inr n) (p.on k w a e);
@@ -159,6 +162,10 @@ settling f g =
       fence = λ w k. fences w k (ap (λ s. s w) p.sent) (ap (λ s. s w k) p.fence) (fence_after-place k (t.placed.sent w) (mail w (down_messages t)) (t.placed.fence w k)) (count_to-mail w (down_messages t));
     }
   where
+    both : (b c : Bool) → cond b c false ≡ true → (b ≡ true) × (c ≡ true)
+    both true c e = (refl, e)
+    both false c e = absurd (false≢true e)
+
     fences : (w k : ℕ) → let t = settle f g in let ms = down_messages t in let n = fence_after k (t.placed.sent w) (mail w ms) (t.placed.fence w k) in
         t.placed.sent w ≡ g.facts.sent w → t.placed.fence w k ≡ g.facts.fence w k
         → (n ≡ t.placed.fence w k) ⊎ ((t.placed.sent w < n) × (n ≤ t.placed.sent w + length (mail w ms)))

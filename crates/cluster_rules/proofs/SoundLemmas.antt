@@ -21,13 +21,14 @@ pub record IsBounded (f g : Facts) : Type 0 where
   pub want : (c k : ℕ) → keys f ≤ k → g.want c k ≡ false
   pub has : (w k : ℕ) → keys f ≤ k → g.has w k ≡ None
   pub bad : (k : ℕ) → keys f ≤ k → g.bad k ≡ false
+  pub losses : (k : ℕ) → keys f ≤ k → g.losses k ≡ 0
   pub on : (k : ℕ) → keys f ≤ k → g.on k ≡ None
   pub steal : (k : ℕ) → g.on k ≡ None → g.steal k ≡ None
   pub holders : (w k : ℕ) → holds g w k ≡ true → connected f w ≡ true
   pub places : (w k : ℕ) → is_on g w k ≡ true → connected f w ≡ true
 
 pub bounded_self : (f : Facts) → IsSound f → IsBounded f f
-bounded_self f s = record { setting = refl; threads = refl; last_worker = refl; want = s.want; has = s.has; bad = s.bad; on = s.on; steal = s.steal; holders = s.holders; places = s.places }
+bounded_self f s = record { setting = refl; threads = refl; last_worker = refl; want = s.want; has = s.has; bad = s.bad; losses = s.losses; on = s.on; steal = s.steal; holders = s.holders; places = s.places }
 
 pub sound_bounded : (f g : Facts) → IsSound f → IsBounded f g → IsSound g
 sound_bounded f g s b = record {
@@ -37,6 +38,7 @@ sound_bounded f g s b = record {
   want = λ c k l. b.want c k (same_keys k l);
   has = λ w k l. b.has w k (same_keys k l);
   bad = λ k l. b.bad k (same_keys k l);
+  losses = λ k l. b.losses k (same_keys k l);
   on = λ k l. b.on k (same_keys k l);
   steal = b.steal;
   numbers = λ w e. let n = s.numbers w (ap (λ t. is_some (t w)) (sym b.threads) ∙ e) in (n.0, subst (λ m. w ≤ m) (sym b.last_worker) n.1);
@@ -101,6 +103,7 @@ bounded_finished f s w k a l c = pick (is_this w a (f.on k))
       want = s.want;
       has = λ v j m. put_pair_past f.has w k (keys f) v j (Some f.counter) l m (s.has v j m);
       bad = s.bad;
+      losses = s.losses;
       on = λ j m. cond_none (eqb j k) (f.on j) (s.on j m);
       steal = λ j h. steal_less f (eqb j k) s j h;
       holders = held_then f w k (Some f.counter) s c;
@@ -123,6 +126,7 @@ bounded_failed f s w k a l = pick (is_this w a (f.on k))
       want = s.want;
       has = s.has;
       bad = λ j m. false_kept (eqb j k) true (f.bad j) (unequal_past j k (keys f) l m) (s.bad j m);
+      losses = s.losses;
       on = λ j m. cond_none (eqb j k) (f.on j) (s.on j m);
       steal = λ j h. steal_less f (eqb j k) s j h;
       holders = s.holders;
@@ -139,6 +143,7 @@ bounded_copy f s w k n x l c = record {
   want = s.want;
   has = λ v j m. put_pair_past f.has w k (keys f) v j x l m (s.has v j m);
   bad = s.bad;
+  losses = s.losses;
   on = s.on;
   steal = s.steal;
   holders = held_then f w k x s c;
@@ -153,6 +158,7 @@ bounded_gone f s w k = record {
   want = s.want;
   has = λ v j m. cond_none (eqb v w && eqb j k) (f.has v j) (s.has v j m);
   bad = s.bad;
+  losses = s.losses;
   on = s.on;
   steal = s.steal;
   holders = λ v j h. held_less f (eqb v w && eqb j k) s v j h;
@@ -167,6 +173,7 @@ bounded_then f g h p q = record {
   want = λ c k l. q.want c k (same_keys k l);
   has = λ w k l. q.has w k (same_keys k l);
   bad = λ k l. q.bad k (same_keys k l);
+  losses = λ k l. q.losses k (same_keys k l);
   on = λ k l. q.on k (same_keys k l);
   steal = q.steal;
   holders = λ w k e. ap (λ t. is_some (t w)) (sym p.threads) ∙ q.holders w k e;
@@ -230,6 +237,7 @@ bounded_stolen f s k thief l = pick (connected f thief) refl
       want = s.want;
       has = s.has;
       bad = s.bad;
+      losses = s.losses;
       on = λ j m. put_past f.on k (keys f) j (Some (thief, f.counter)) l m (s.on j m);
       steal = λ j h. steal_at j (eqb j k) h;
       holders = s.holders;
@@ -246,6 +254,7 @@ bounded_stolen f s k thief l = pick (connected f thief) refl
       want = s.want;
       has = s.has;
       bad = s.bad;
+      losses = s.losses;
       on = λ j m. cond_none (eqb j k) (f.on j) (s.on j m);
       steal = λ j h. steal_less f (eqb j k) s j h;
       holders = s.holders;
@@ -254,7 +263,7 @@ bounded_stolen f s k thief l = pick (connected f thief) refl
 
 -- the key of a steal has a place
 pub bounded_marked : (f : Facts) → IsSound f → (k : ℕ) (m : Option (ℕ × Bool)) → (f.on k ≡ None → ⊥) → IsBounded f (record f { steal = put f.steal k m })
-bounded_marked f s k m placed = record { setting = refl; threads = refl; last_worker = refl; want = s.want; has = s.has; bad = s.bad; on = s.on; steal = λ j h. at j (eqb j k) refl h; holders = s.holders; places = s.places }
+bounded_marked f s k m placed = record { setting = refl; threads = refl; last_worker = refl; want = s.want; has = s.has; bad = s.bad; losses = s.losses; on = s.on; steal = λ j h. at j (eqb j k) refl h; holders = s.holders; places = s.places }
   where
     at : (j : ℕ) (b : Bool) → eqb j k ≡ b → f.on j ≡ None → cond b m (f.steal j) ≡ None
     at j true e h = absurd (placed (ap f.on (sym (eqb-true j k e)) ∙ h))

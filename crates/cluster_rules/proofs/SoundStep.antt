@@ -17,11 +17,11 @@ use Rattle.cluster_msgs.specs.declared.messages.FromClient.{FromClient as FromCl
 use Rattle.cluster_msgs.specs.declared.messages.FromClient.TheVariants.{Want, Release, Missing}
 use Rattle.cluster_msgs.specs.declared.cores.Steal.{Steal}
 use Rattle.cluster_msgs.specs.declared.cores.SchedEvent.{SchedEvent}
-use Rattle.cluster_msgs.specs.declared.cores.SchedEvent.TheVariants.{Join, Leave, FromWorker, FromClient, Balance, Evict}
+use Rattle.cluster_msgs.specs.declared.cores.SchedEvent.TheVariants.{Join, Leave, FromWorker, FromClient, Balance, Evict, Replicate}
 use Rattle.cluster_rules.specs.Functions.{put, from_one}
 use Rattle.cluster_rules.specs.Derived.{below, is_in}
 use Rattle.cluster_rules.specs.Choice.{IsLeastOf}
-use Rattle.cluster_rules.specs.Sched.{Setting, Facts, IsSound, sched_opening, keys, deps, known, need, ready, holds, is_on, is_for, workers, connected, full}
+use Rattle.cluster_rules.specs.Sched.{Setting, Facts, IsSound, sched_opening, keys, deps, known, need, ready, holds, is_on, is_for, is_above, workers, connected, full}
 use Rattle.cluster_rules.specs.Policies.{place, place_rank, candidates, candidates_by, or_else, next_steal, steal_rank, steal_choices, may_steal, next_drop}
 use Rattle.cluster_rules.specs.SchedTable.{Changed, plain, change, change_up, change_client, joined, left, wants_more, wants_less, balanced, evicted, are_keys, up_keys, client_keys, sched_takes}
 use Rattle.cluster_rules.specs.SchedStep.{drop_bad, drop_has, drop_on, give, place_one, place_keys, place_all, settle, posted, down_messages, finish_step, sched_step}
@@ -59,6 +59,7 @@ bounded_wants_more f s c ks h = record {
   want = λ d k l. ap (λ b. b || (eqb d c && is_in k ks)) (s.want d k l) ∙ ap (λ b. eqb d c && b) (not_listed f ks h k l) ∙ and-false (eqb d c);
   has = s.has;
   bad = s.bad;
+  losses = s.losses;
   on = s.on;
   steal = s.steal;
   holders = s.holders;
@@ -74,6 +75,7 @@ bounded_wants_less f s c ks = record {
   want = λ d k l. ap (λ b. b && not (eqb d c && is_in k ks)) (s.want d k l);
   has = s.has;
   bad = s.bad;
+  losses = s.losses;
   on = s.on;
   steal = s.steal;
   holders = s.holders;
@@ -121,6 +123,7 @@ sound_joined f s n low high few last = record {
   want = s.want;
   has = s.has;
   bad = s.bad;
+  losses = s.losses;
   on = s.on;
   steal = s.steal;
   numbers = λ w e. number w (eqb w (f.last_worker + 1)) refl e;
@@ -175,7 +178,8 @@ sound_left f s w = record {
   saturation = s.saturation;
   want = s.want;
   has = λ v k l. cond_none (eqb v w) (f.has v k) (s.has v k l);
-  bad = s.bad;
+  bad = λ k l. ap (λ b. b || (is_on f w k && is_above f.setting.allowed (f.losses k + 1))) (s.bad k l) ∙ ap (λ o. is_for w o && is_above f.setting.allowed (f.losses k + 1)) (s.on k l);
+  losses = λ k l. ap (λ o. cond (is_for w o) (f.losses k + 1) (f.losses k)) (s.on k l) ∙ s.losses k l;
   on = λ k l. cond_none (is_on f w k) (f.on k) (s.on k l);
   steal = λ k h. steal_less f (is_on f w k) s k h;
   numbers = λ v e. s.numbers v (was v (eqb v w) e);
@@ -211,21 +215,25 @@ pub false_less : (b x : Bool) → x ≡ false → cond b x false ≡ false
 false_less true x e = e
 false_less false x e = refl
 
+pub zero_less : (b : Bool) (n : ℕ) → n ≡ 0 → cond b n 0 ≡ 0
+zero_less true n e = e
+zero_less false n e = refl
+
 pub none_less : {A : Type 0} (b : Bool) (o : Option A) → o ≡ None → cond b o None ≡ None
 none_less true o e = e
 none_less false o e = refl
 
 bounded_drop_bad : (f : Facts) → IsSound f → IsBounded f (drop_bad f)
 unfolding drop_bad
-bounded_drop_bad f s = record { setting = refl; threads = refl; last_worker = refl; want = s.want; has = s.has; bad = λ k l. false_less (known f k) (f.bad k) (s.bad k l); on = s.on; steal = s.steal; holders = s.holders; places = s.places }
+bounded_drop_bad f s = record { setting = refl; threads = refl; last_worker = refl; want = s.want; has = s.has; bad = λ k l. false_less (known f k) (f.bad k) (s.bad k l); losses = λ k l. zero_less (known f k) (f.losses k) (s.losses k l); on = s.on; steal = s.steal; holders = s.holders; places = s.places }
 
 bounded_drop_has : (f : Facts) → IsSound f → IsBounded f (drop_has f)
 unfolding drop_has
-bounded_drop_has f s = record { setting = refl; threads = refl; last_worker = refl; want = s.want; has = λ w k l. none_less (need f k) (f.has w k) (s.has w k l); bad = s.bad; on = s.on; steal = s.steal; holders = λ w k h. held_some f (need f k) s w k h; places = s.places }
+bounded_drop_has f s = record { setting = refl; threads = refl; last_worker = refl; want = s.want; has = λ w k l. none_less (need f k) (f.has w k) (s.has w k l); bad = s.bad; losses = s.losses; on = s.on; steal = s.steal; holders = λ w k h. held_some f (need f k) s w k h; places = s.places }
 
 bounded_drop_on : (f : Facts) → IsSound f → IsBounded f (drop_on f)
 unfolding drop_on
-bounded_drop_on f s = record { setting = refl; threads = refl; last_worker = refl; want = s.want; has = s.has; bad = s.bad; on = λ k l. none_less (ready f k) (f.on k) (s.on k l); steal = λ k h. steal_some k (ready f k) h; holders = s.holders; places = λ w k h. on_some f (ready f k) s w k h }
+bounded_drop_on f s = record { setting = refl; threads = refl; last_worker = refl; want = s.want; has = s.has; bad = s.bad; losses = s.losses; on = λ k l. none_less (ready f k) (f.on k) (s.on k l); steal = λ k h. steal_some k (ready f k) h; holders = s.holders; places = λ w k h. on_some f (ready f k) s w k h }
   where
     steal_some : (k : ℕ) (b : Bool) → cond b (f.on k) None ≡ None → cond b (f.steal k) None ≡ None
     steal_some k true h = s.steal k h
@@ -257,6 +265,7 @@ bounded_give f s k w l c = record {
   want = s.want;
   has = s.has;
   bad = s.bad;
+  losses = s.losses;
   on = λ j m. put_past f.on k (keys f) j (Some (w, f.counter)) l m (s.on j m);
   steal = λ j h. steal_at j (eqb j k) h;
   holders = s.holders;
@@ -299,7 +308,7 @@ sound_settled f g s =
     let p = place_all o in
     let sp = sound_bounded o p so (bounded_place_all o so) in
     sound_bounded p (posted (settle f g) (down_messages (settle f g))) sp
-    (record { setting = refl; threads = refl; last_worker = refl; want = sp.want; has = sp.has; bad = sp.bad; on = sp.on; steal = sp.steal; holders = sp.holders; places = sp.places })
+    (record { setting = refl; threads = refl; last_worker = refl; want = sp.want; has = sp.has; bad = sp.bad; losses = sp.losses; on = sp.on; steal = sp.steal; holders = sp.holders; places = sp.places })
 
 pub sound_changed : (f : Facts) → IsSound f → (e : SchedEvent) → sched_takes f e ≡ true → IsSound (change f e).facts
 unfolding sched_takes next_steal
@@ -315,6 +324,7 @@ sound_changed f s (FromWorker w up) h =
 sound_changed f s (FromClient c m) h =
     sound_bounded f (change_client f c m).facts s (bounded_client f s c m (and_parts (nat_le 1 c && nat_le c f.setting.clients) (are_keys f (client_keys m)) h).1)
 sound_changed f s Balance h = sound_bounded f (balanced f (next_steal f)).facts s (bounded_balanced f s (next_steal f) (least_by_least (steal_rank f) (steal_choices f)))
+sound_changed f s (Replicate k w) h = s
 sound_changed f s Evict h = sound_bounded f (evicted f (next_drop f)).facts s (bounded_evicted f s (next_drop f))
 
 -- an event that is taken keeps all facts in range
@@ -330,6 +340,7 @@ sound_opening c shape few saturation = record {
   want = λ d k l. refl;
   has = λ w k l. refl;
   bad = λ k l. refl;
+  losses = λ k l. refl;
   on = λ k l. refl;
   steal = λ k h. refl;
   numbers = λ w e. absurd (false≢true e);

@@ -6,11 +6,11 @@ use Rattle.cluster_msgs.specs.Shape.{key_count}
 use Rattle.cluster_msgs.specs.declared.messages.Message.{Message}
 use Rattle.cluster_msgs.specs.declared.messages.Message.TheVariants.{Down as DownMessage, Up as UpMessage, ToClient as ToClientMessage, FromClient as FromClientMessage, Peer as PeerMessage}
 use Rattle.cluster_msgs.specs.declared.messages.Peer.TheVariants.{GetData, Data}
-use Rattle.cluster_msgs.specs.declared.cores.SchedEvent.TheVariants.{Join as JoinSched, Balance as BalanceSched, Evict as EvictSched}
+use Rattle.cluster_msgs.specs.declared.cores.SchedEvent.TheVariants.{Join as JoinSched, Balance as BalanceSched, Evict as EvictSched, Replicate as ReplicateSched}
 use Rattle.cluster_msgs.specs.declared.events.Asker.{Asker}
 use Rattle.cluster_msgs.specs.declared.events.Asker.TheVariants.{Worker, Client}
 use Rattle.cluster_msgs.specs.declared.events.Event.{Event}
-use Rattle.cluster_msgs.specs.declared.events.Event.TheVariants.{Want, Release, Join, Lose, SeeLoss, Suspect, DeliverDown, DeliverUp, DeliverToClient, DeliverFromClient, Start, Finish, SendGather, ServeGather, ArriveGather, FailGather, Balance, Evict, Spill, LoseSpilled}
+use Rattle.cluster_msgs.specs.declared.events.Event.TheVariants.{Want, Release, Join, Lose, SeeLoss, Suspect, DeliverDown, DeliverUp, DeliverToClient, DeliverFromClient, Start, Finish, SendGather, ServeGather, ArriveGather, FailGather, Balance, Evict, Replicate, Spill, LoseSpilled}
 use Rattle.cluster_rules.specs.Derived.{below}
 use Rattle.cluster_rules.specs.SchedTable.{sched_takes}
 use Rattle.cluster_rules.specs.Worker.{has_any, would_ask, would_start}
@@ -45,6 +45,7 @@ enabled w (ArriveGather a p n) = is_asker w a && is_some (parcel_of a p n w.answ
 enabled w (FailGather a p) = is_asker w a && is_some (open_ask w a p)
 enabled w Balance = sched_takes w.sched BalanceSched
 enabled w Evict = sched_takes w.sched EvictSched
+enabled w (Replicate k i) = sched_takes w.sched (ReplicateSched k i)
 enabled w (Spill i k) = w.alive i && ((w.workers i).mem k && not (w.spilled i k))
 enabled w (LoseSpilled i k) = w.alive i && w.spilled i k
 

@@ -1,5 +1,5 @@
 -- Legal lists of events, and what is promised of them.
-use Rattle.std.specs.Prelude.{◌≡◌, ◌↔◌, ℕ, ◌≤◌, ◌==◌, Bool, true, false, ◌&&◌, ◌||◌, List, [], ◌∷◌, ◌++◌, Option, Some, None, is_some, cond}
+use Rattle.std.specs.Prelude.{◌≡◌, ◌↔◌, ℕ, ◌+◌, ◌≤◌, ◌==◌, Bool, true, false, ◌&&◌, ◌||◌, List, [], ◌∷◌, ◌++◌, Option, Some, None, is_some, cond}
 use Rattle.std.specs.List.{list_any}
 use Rattle.std.specs.Option.{option_map}
 use Rattle.cluster_msgs.specs.declared.messages.Down.{Down}
@@ -7,11 +7,11 @@ use Rattle.cluster_msgs.specs.declared.messages.Down.TheVariants.{FreeKeys}
 use Rattle.cluster_msgs.specs.declared.messages.Up.{Up}
 use Rattle.cluster_msgs.specs.declared.messages.Up.TheVariants.{TaskFinished, TaskErred, StealResponse}
 use Rattle.cluster_msgs.specs.declared.cores.SchedEvent.{SchedEvent}
-use Rattle.cluster_msgs.specs.declared.cores.SchedEvent.TheVariants.{Join as JoinSched, Leave, FromWorker, FromClient, Balance as BalanceSched, Evict as EvictSched}
+use Rattle.cluster_msgs.specs.declared.cores.SchedEvent.TheVariants.{Join as JoinSched, Leave, FromWorker, FromClient, Balance as BalanceSched, Evict as EvictSched, Replicate as ReplicateSched}
 use Rattle.cluster_msgs.specs.declared.events.Event.{Event}
-use Rattle.cluster_msgs.specs.declared.events.Event.TheVariants.{Join, SeeLoss, Suspect, DeliverUp, DeliverFromClient, Start, Balance, Evict}
+use Rattle.cluster_msgs.specs.declared.events.Event.TheVariants.{Join, SeeLoss, Suspect, DeliverUp, DeliverFromClient, Start, Balance, Evict, Replicate}
 use Rattle.cluster_rules.specs.Derived.{is_in}
-use Rattle.cluster_rules.specs.Sched.{Facts, holds, held, known, need}
+use Rattle.cluster_rules.specs.Sched.{Facts, holds, held, known, need, is_on, is_above}
 use Rattle.cluster_rules.specs.SchedTable.{is_this, is_asked_back}
 use Rattle.cluster_rules.specs.SchedStep.{sched_step, mail}
 use Rattle.cluster_rules.specs.Worker.{has_any, would_start}
@@ -52,6 +52,7 @@ sched_event w (DeliverUp i) = cond (is_connected w i) (option_map (λ m. FromWor
 sched_event w (DeliverFromClient c) = option_map (λ m. FromClient c m) (front (w.from_client c))
 sched_event w Balance = Some BalanceSched
 sched_event w Evict = Some EvictSched
+sched_event w (Replicate k i) = Some (ReplicateSched k i)
 sched_event w _ = None
 
 -- a message that ends this attempt where it counts: its finish, its error, or that the worker gave it up unstarted
@@ -123,12 +124,34 @@ pub record OneAttempt (j : Job) (es : List Event) : Type 0 where
       → Ended j (before ++ d ∷ (between ++ e ∷ [])) v k a
   pub unstarted : (i k a : ℕ) → Yielded j es i k a → Started j es i k a → ⊥
 
+-- the event takes that the worker leaves to which the key is assigned
+abbrev pub loses : Facts → ℕ → Option SchedEvent → Bool
+loses f k (Some (Leave v)) = is_on f v k
+loses f k _ = false
+
+-- in how many of these events, after so many earlier ones, the key lost its worker, since it was last not known
+abbrev pub losses_from : Job → World → ℕ → List Event → ℕ → ℕ
+losses_from j w n [] k = n
+losses_from j w n (e ∷ es) k = losses_from j (world_step j w e) (cond (known (world_step j w e).sched k) (cond (loses w.sched k (sched_event w e)) (n + 1) n) 0) es k
+
+-- after these events the key is killed: since it was last not known, it lost its worker more often than is allowed
+unfoldable pub killed : Job → List Event → ℕ → Bool
+killed j es k = is_above j.setting.allowed (losses_from j (opening j) 0 es k)
+
+-- at some place in these events the key was killed
+pub record WasKilled (j : Job) (es : List Event) (k : ℕ) : Type 0 where
+  pub before : List Event
+  pub later : List Event
+  pub whole : es ≡ before ++ later
+  pub killed : killed j before k ≡ true
+
 -- (b) the scheduler has facts only of known keys, and only needed keys are held
 pub record OnlyKnown (f : Facts) : Type 0 where
   pub has : (i k : ℕ) → holds f i k ≡ true → known f k ≡ true
   pub on : (k : ℕ) → is_some (f.on k) ≡ true → known f k ≡ true
   pub steal : (k : ℕ) → is_some (f.steal k) ≡ true → known f k ≡ true
   pub bad : (k : ℕ) → f.bad k ≡ true → known f k ≡ true
+  pub losses : (k : ℕ) → 1 ≤ f.losses k → known f k ≡ true
   pub held : (k : ℕ) → held f k ≡ true → need f k ≡ true
 
 -- (c) a worker with no message under way holds and has exactly what the scheduler counts there

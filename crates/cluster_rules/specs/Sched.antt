@@ -1,5 +1,5 @@
 -- The scheduler's facts, and what is derived anew from them ("Scheduling State" of Dask.distributed's documentation).
-use Rattle.std.specs.Prelude.{◌≡◌, ℕ, zero, suc, ◌*◌, ◌≤◌, ◌==◌, nat_le, Bool, true, false, not, ◌&&◌, List, length, Option, Some, None, is_some, filter, find, map, cond, unwrap_or}
+use Rattle.std.specs.Prelude.{◌≡◌, ℕ, zero, suc, ◌*◌, ◌≤◌, ◌==◌, nat_le, nat_lt, Bool, true, false, not, ◌&&◌, List, length, Option, Some, None, is_some, filter, find, map, cond, unwrap_or}
 use Rattle.std.specs.List.{list_any, list_all, filter_map}
 use Rattle.std.specs.Option.{option_map}
 use Rattle.cluster_msgs.specs.Shape.{Shape, IsShape, deps_of, work_of, nbytes_of, key_count}
@@ -9,7 +9,7 @@ use Rattle.cluster_rules.specs.Functions.{from_one, total, count}
 use Rattle.cluster_rules.specs.Derived.{err, reach, below, is_in}
 
 -- what never changes: the graph's shape, how many clients there are, how many tenths of its threads a worker may be given in tasks,
--- and how often a key's worker may leave while the key is assigned to it, where that is bounded; losses aren't counted yet
+-- and how often a key's worker may leave while the key is assigned to it, where that is bounded
 pub record Setting : Type 0 where
   pub shape : Shape
   pub clients : ℕ
@@ -24,6 +24,7 @@ pub record Facts : Type 0 where
   pub on : ℕ → Option (ℕ × ℕ)  -- key: the worker that it was given to, and under which attempt
   pub steal : ℕ → Option (ℕ × Bool)  -- key: the thief that is to get it, and whether the victim refused
   pub bad : ℕ → Bool  -- keys with an error of their own
+  pub losses : ℕ → ℕ  -- key: how often its worker left while the key was assigned to it
   pub threads : ℕ → Option ℕ  -- of a connected worker
   pub sent : ℕ → ℕ  -- how many messages went to the worker
   pub fence : ℕ → ℕ → ℕ  -- worker, key: the place of the last message that took the key away from the worker, else 0
@@ -40,6 +41,7 @@ sched_opening s = record {
   on = λ k. None;
   steal = λ k. None;
   bad = λ k. false;
+  losses = λ k. 0;
   threads = λ w. None;
   sent = λ w. 0;
   fence = λ w k. 0;
@@ -119,6 +121,11 @@ abbrev pub is_for : ℕ → Option (ℕ × ℕ) → Bool
 is_for w None = false
 is_for w (Some p) = p.0 == w
 
+-- so many losses are more than are allowed
+abbrev pub is_above : Option ℕ → ℕ → Bool
+is_above None n = false
+is_above (Some a) n = nat_lt a n
+
 -- the key is on the worker
 abbrev pub is_on : Facts → ℕ → ℕ → Bool
 is_on f w k = is_for w (f.on k)
@@ -182,6 +189,7 @@ pub record IsSound (f : Facts) : Type 0 where
   pub want : (c k : ℕ) → keys f ≤ k → f.want c k ≡ false
   pub has : (w k : ℕ) → keys f ≤ k → f.has w k ≡ None
   pub bad : (k : ℕ) → keys f ≤ k → f.bad k ≡ false
+  pub losses : (k : ℕ) → keys f ≤ k → f.losses k ≡ 0
   pub on : (k : ℕ) → keys f ≤ k → f.on k ≡ None
   pub steal : (k : ℕ) → f.on k ≡ None → f.steal k ≡ None
   pub numbers : (w : ℕ) → connected f w ≡ true → (1 ≤ w) × (w ≤ f.last_worker)

@@ -13,9 +13,9 @@ use Rattle.cluster_rules.specs.Sched.{Facts, keys, deps, holds, workers, held, e
 use Rattle.cluster_rules.specs.Policies.{place}
 use Rattle.cluster_rules.specs.SchedTable.{Changed, change}
 
--- (1) bad loses the keys that are not known
+-- (1) bad and losses lose the keys that are not known
 unfoldable pub drop_bad : Facts → Facts
-drop_bad f = record f { bad = λ k. cond (known f k) (f.bad k) false }
+drop_bad f = record f { bad = λ k. cond (known f k) (f.bad k) false; losses = λ k. cond (known f k) (f.losses k) 0 }
 
 -- (2) has loses the keys that are not needed
 unfoldable pub drop_has : Facts → Facts

@@ -2,17 +2,17 @@
 use Rattle.std.specs.Prelude.{ℕ, ◌+◌, ◌==◌, nat_le, nat_lt, Bool, true, false, not, ◌&&◌, ◌||◌, List, [], ◌∷◌, Option, Some, None, is_some, length, cond}
 use Rattle.std.specs.List.{list_all}
 use Rattle.cluster_msgs.specs.declared.messages.Down.{Down}
-use Rattle.cluster_msgs.specs.declared.messages.Down.TheVariants.{StealRequest, RemoveReplicas, RefreshWhoHas}
+use Rattle.cluster_msgs.specs.declared.messages.Down.TheVariants.{StealRequest, RemoveReplicas, AcquireReplicas, RefreshWhoHas}
 use Rattle.cluster_msgs.specs.declared.messages.Up.{Up}
 use Rattle.cluster_msgs.specs.declared.messages.Up.TheVariants.{TaskFinished, TaskErred, AddKeys, ReleaseWorkerData, MissingData, RequestRefreshWhoHas, StealResponse}
 use Rattle.cluster_msgs.specs.declared.messages.FromClient.{FromClient as FromClientMessage}
 use Rattle.cluster_msgs.specs.declared.messages.FromClient.TheVariants.{Want, Release, Missing}
 use Rattle.cluster_msgs.specs.declared.cores.Steal.{Steal}
 use Rattle.cluster_msgs.specs.declared.cores.SchedEvent.{SchedEvent}
-use Rattle.cluster_msgs.specs.declared.cores.SchedEvent.TheVariants.{Join, Leave, FromWorker, FromClient, Balance, Evict}
+use Rattle.cluster_msgs.specs.declared.cores.SchedEvent.TheVariants.{Join, Leave, FromWorker, FromClient, Balance, Evict, Replicate}
 use Rattle.cluster_rules.specs.Functions.{put, put_pair}
 use Rattle.cluster_rules.specs.Derived.{is_in}
-use Rattle.cluster_rules.specs.Sched.{Facts, keys, connected, workers, holds, held, is_on, who_has}
+use Rattle.cluster_rules.specs.Sched.{Facts, keys, connected, workers, holds, held, is_on, is_above, who_has}
 use Rattle.cluster_rules.specs.Policies.{next_steal, next_drop}
 
 -- what an event changes by itself
@@ -41,13 +41,16 @@ plain f = record { facts = f; freed = nothing_freed; answer = no_answer; asked =
 unfoldable pub joined : Facts → ℕ → Facts
 joined f threads = record f { threads = put f.threads (f.last_worker + 1) (Some threads); last_worker = f.last_worker + 1 }
 
--- Leave: the worker, what it holds, what it was given and the steals of that go. A steal for it stays
+-- Leave: the worker, what it holds, what it was given and the steals of that go. A steal for it stays. Each key that it was given has lost a
+-- worker once more, and where that is more often than is allowed, it is bad
 unfoldable pub left : Facts → ℕ → Facts
 left f w = record f {
   threads = put f.threads w None;
   has = λ v k. cond (v == w) None (f.has v k);
   on = λ k. cond (is_on f w k) None (f.on k);
   steal = λ k. cond (is_on f w k) None (f.steal k);
+  bad = λ k. f.bad k || (is_on f w k && is_above f.setting.allowed (f.losses k + 1));
+  losses = λ k. cond (is_on f w k) (f.losses k + 1) (f.losses k);
 }
 
 -- whether the key was given to the worker under this attempt
@@ -157,6 +160,10 @@ change_client f c (Want ks) = record (plain (wants_more f c ks)) { asked = λ k.
 change_client f c (Release ks) = plain (wants_less f c ks)
 change_client f c (Missing k x copy) = record (lost_copy f x k copy) { reply = Some (c, k) }
 
+-- Replicate: the worker is answered that it is to get a copy, and from whom
+abbrev pub copied : Facts → ℕ → ℕ → Changed
+copied f k w = record (plain f) { answer = λ h v. cond (v == w) (AcquireReplicas (who_has h (k ∷ [])) ∷ []) [] }
+
 -- the whole table
 abbrev pub change : Facts → SchedEvent → Changed
 change f (Join threads) = record (plain (joined f threads)) { joined = (f.last_worker + 1) ∷ [] }
@@ -165,6 +172,7 @@ change f (FromWorker w up) = change_up f w up
 change f (FromClient c msg) = change_client f c msg
 change f Balance = balanced f (next_steal f)
 change f Evict = evicted f (next_drop f)
+change f (Replicate k w) = copied f k w
 
 -- the keys that a worker's message names
 abbrev pub up_keys : Up → List ℕ
@@ -194,3 +202,4 @@ sched_takes f (FromWorker w up) = connected f w && are_keys f (up_keys up)
 sched_takes f (FromClient c msg) = (nat_le 1 c && nat_le c f.setting.clients) && are_keys f (client_keys msg)
 sched_takes f Balance = is_some (next_steal f)
 sched_takes f Evict = is_some (next_drop f)
+sched_takes f (Replicate k w) = (connected f w && are_keys f (k ∷ [])) && (held f k && not (holds f w k))

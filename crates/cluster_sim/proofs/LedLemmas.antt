@@ -5,6 +5,7 @@ use Rattle.cluster_rules.specs.Sched.{Setting}
 use Rattle.cluster_rules.specs.Client.{is_unfinished}
 use Rattle.cluster_rules.specs.World.{Job, IsJob, World as Cluster, unfinished, is_connected}
 use Rattle.cluster_rules.specs.Draw.{Plan, Sim, opening_events}
+use Rattle.cluster_world.specs.Safe.{LosesFew}
 use Rattle.safety_laws.proofs.Responsive.{IsResponsive, responsive_after, responsive_any, is_lively}
 use Rattle.cluster_sim.specs.Simulations.{IsStuck}
 use Rattle.cluster_sim.specs.Led.{any_job, Made, after_next, next_of, Comes, LedTo, at_first, IsLed, IsLeftAlone}
@@ -22,6 +23,12 @@ module _ (j : Job) (job : IsJob j) (p : Plan) where
   responsive_led (m ∷ ms) s t r l =
       responsive_led ms (after_next m.met s (next_of p s m)) t
       (subst (IsResponsive j) (sym (moved_world (record { setting = s.world.sched.setting; zero = λ k. m.met }) s (next_of p s m) m.event l.0.next)) (responsive_any j job m.met s.world m.event l.0.enabled r)) l.1
+
+-- the scheduler's counts of losses are bounded there
+pub few_losses : (set : Setting) (p : Plan) (wanted : List ℕ) (t : Sim) → IsLed set p wanted t → LosesFew t.world.sched
+few_losses set p wanted t h =
+    let r : IsResponsive (any_job set) t.world = responsive_led (any_job set) h.job p h.made (at_first set p wanted) t (responsive_after (any_job set) h.job (opening_events p wanted) h.opens) h.led in
+    λ k a e. r.joint.settled.losses_stop k a e
 
 -- where the client waits and nothing moves, nobody is there
 pub left_alone : (set : Setting) (p : Plan) (wanted : List ℕ) (w : Cluster) (t : Sim) → IsLed set p wanted t → t.world ≡ w → IsStuck w → IsLeftAlone set p wanted w

@@ -17,3 +17,6 @@ pub mod OpeningRecords
 pub mod QuietLemmas
 pub mod LedLemmas
 pub mod SimulateRecords
+pub mod Removed
+pub mod RemovalLemmas
+pub mod FaultLemmas

@@ -103,8 +103,8 @@ pub opening_goes : {J B F : Type 0} (op : J → ℕ → List B → Option B) (te
 opening_goes op tells n threads old mid t h few e = let b = h.count in let c = length-replicate n (Join threads) in omega (arith, b, c, few, e)
 
 -- a new world with clients, within the limits, is an opening one
-pub opening_is : {J B F : Type 0} (op : J → ℕ → List B → Option B) (s : State J B F) (g : Shape) (clients saturation : ℕ) → IsReady s → s.events ≡ 0 → cluster s ≡ opening_cluster (setting_of g clients saturation) (op s.job) → (1 ≤ clients) × (clients ≤ 16) → (1 ≤ saturation) × (saturation ≤ 1000) → IsOpening op s
-opening_is {J} {B} {F} op s g clients saturation ready fresh h some most = record {
+pub opening_is : {J B F : Type 0} (op : J → ℕ → List B → Option B) (s : State J B F) (g : Shape) (clients saturation : ℕ) (allowed : Option ℕ) → IsReady s → s.events ≡ 0 → cluster s ≡ opening_cluster (setting_of g clients saturation allowed) (op s.job) → (1 ≤ clients) × (clients ≤ 16) → (1 ≤ saturation) × (saturation ≤ 1000) → IsOpening op s
+opening_is {J} {B} {F} op s g clients saturation allowed ready fresh h some most = record {
   going = ready.going;
   made = made_opening op s (h ∙ ap (λ (x : Setting). opening_cluster x (op s.job)) (sym same)) fresh;
   client = subst (λ (x : Setting). 1 ≤ x.clients) (sym same) some.0;
@@ -112,9 +112,9 @@ opening_is {J} {B} {F} op s g clients saturation ready fresh h some most = recor
   saturation = subst (λ (x : Setting). (1 ≤ x.saturation) × (x.saturation ≤ 1000)) (sym same) most;
 }
   where
-    same : setting s ≡ setting_of g clients saturation
+    same : setting s ≡ setting_of g clients saturation allowed
     same = sym (setting-world s) ∙ ap (λ (c : Blocks B). c.world.sched.setting) h
 
-pub opening_if : {J B F E : Type 0} (op : J → ℕ → List B → Option B) (r : Result (State J B F) E) (job : J) (g : Shape) (clients saturation : ℕ) → (1 ≤ clients) × (clients ≤ 16) → (1 ≤ saturation) × (saturation ≤ 1000) → IfOk r (λ w. cluster w ≡ opening_cluster (setting_of g clients saturation) (op job)) → IfOk r (λ w. IsReady w) → IfOk r (λ w. w.events ≡ 0) → IfOk r (λ w. w.job ≡ job) → IfOk r (λ w. IsOpening op w)
-opening_if op (Ok w) job g clients saturation some most a b e j = opening_is op w g clients saturation b e (a ∙ ap (λ i. opening_cluster (setting_of g clients saturation) (op i)) (sym j)) some most
-opening_if op (Err x) job g clients saturation some most a b e j = tt
+pub opening_if : {J B F E : Type 0} (op : J → ℕ → List B → Option B) (r : Result (State J B F) E) (job : J) (g : Shape) (clients saturation : ℕ) (allowed : Option ℕ) → (1 ≤ clients) × (clients ≤ 16) → (1 ≤ saturation) × (saturation ≤ 1000) → IfOk r (λ w. cluster w ≡ opening_cluster (setting_of g clients saturation allowed) (op job)) → IfOk r (λ w. IsReady w) → IfOk r (λ w. w.events ≡ 0) → IfOk r (λ w. w.job ≡ job) → IfOk r (λ w. IsOpening op w)
+opening_if op (Ok w) job g clients saturation allowed some most a b e j = opening_is op w g clients saturation allowed b e (a ∙ ap (λ i. opening_cluster (setting_of g clients saturation allowed) (op i)) (sym j)) some most
+opening_if op (Err x) job g clients saturation allowed some most a b e j = tt

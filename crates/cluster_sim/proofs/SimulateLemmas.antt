@@ -1,5 +1,4 @@
 -- What the end of a simulation says.
-use Rattle.cluster_laws.specs.Truth.{no_excuse}
 use Rattle.std.proofs.Common.{◌≡◌, ℕ, ◌<◌, Bool, true, false, not, ◌&&◌, ◌||◌, cond, List, [], ◌∷◌, Option, Some, None, is_some, find, refl, sym, ap, ◌∙◌, arith}
 use Rattle.std.specs.Prelude.{◌==◌, ◌↔◌}
 use Rattle.std.specs.List.{list_all, list_any}
@@ -13,7 +12,7 @@ use Rattle.cluster_rules.specs.Derived.{is_in}
 use Rattle.cluster_rules.specs.Sched.{Setting}
 use Rattle.cluster_rules.specs.Client.{ClientFacts, client_keys}
 use Rattle.cluster_rules.specs.World.{World, shape_of}
-use Rattle.cluster_rules.specs.Runs.{legal, reached}
+use Rattle.cluster_rules.specs.Runs.{legal, reached, WasKilled}
 use Rattle.cluster_rules.specs.Draw.{Plan, over, over_by}
 use Rattle.cluster_laws.proofs.TruthWorld.{true_after}
 use Rattle.cluster_laws.specs.Blocks.{job_of}
@@ -22,7 +21,12 @@ use Rattle.cluster_laws.proofs.BlockValues.{blamed}
 use Rattle.cluster_sim.specs.Plans.{IsPlan}
 use Rattle.cluster_sim.specs.Standing.{IsFor, IsStanding}
 use Rattle.cluster_sim.specs.Openings.{IsOpen}
-use Rattle.cluster_sim.specs.Simulations.{HasAll, IfBlamed}
+use Rattle.std.specs.Option.{option_map}
+use Rattle.safety_laws.specs.Released.{NoneReleases}
+use Rattle.cluster_world.specs.Safe.{LosesFew}
+use Rattle.cluster_sim.specs.Simulations.{HasAll}
+use Rattle.cluster_sim.specs.Faults.{fault_at, IfBlamed}
+use Rattle.cluster_sim.proofs.FaultLemmas.{fault_is}
 use Rattle.cluster_sim.specs.declared.position.Standing.{Standing}
 use Rattle.cluster_sim.proofs.EndLemmas.{got_all, all_to}
 
@@ -85,15 +89,15 @@ any_from p (x ∷ xs) k h q = pick (x == k) refl (λ i. any_from p xs k i q) h
     pick true e r h = ap (λ b. b || list_any p xs) (ap p (eqb-true x k e) ∙ q)
     pick false e r h = ap (λ b. p x || b) (r h) ∙ or-true (p x)
 
--- the failure is blamed on a faulty key that is needed
-pub blame_is : {B : Type 0} (s : Setting) (op : ℕ → List B → Option B) (wanted : List ℕ) (es : List Event) (w : World) (failure : Option ℕ) → IsShape s.shape → legal (job_of s op) es → reached (job_of s op) es ≡ w → IsFor wanted (w.clients 1) → over (w.clients 1) ≡ Some failure
-    → IfBlamed (deps_of s.shape) (val (deps_of s.shape) op) wanted failure
-blame_is s op wanted es w None g l r h e = tt
-blame_is s op wanted es w (Some b) g l r h e =
+-- the failure is blamed on a needed key that is faulty or was killed
+pub blame_is : {B : Type 0} (s : Setting) (op : ℕ → List B → Option B) (wanted : List ℕ) (es : List Event) (w : World) (failure : Option ℕ) → IsShape s.shape → legal (job_of s op) es → NoneReleases es → LosesFew (reached (job_of s op) es).sched → w.sched.setting ≡ s → reached (job_of s op) es ≡ w → IsFor wanted (w.clients 1) → over (w.clients 1) ≡ Some failure
+    → IfBlamed (job_of s op) es (deps_of s.shape) (val (deps_of s.shape) op) wanted (option_map (fault_at w) failure)
+blame_is s op wanted es w None g l n few q r h e = tt
+blame_is s op wanted es w (Some b) g l n few q r h e =
     let k = over_blame (w.clients 1) b e in
     let told : ((reached (job_of s op) es).clients 1).failed k.0 ≡ Some b = ap (λ (x : World). (x.clients 1).failed k.0) r ∙ k.1 in
-    let i : IsBlamed (deps_of s.shape) (val (deps_of s.shape) op) k.0 b = blamed s op g k.0 b (((true_after no_excuse (job_of s op) g es l).clients 1).failed k.0 b told) in
-    record { faulty = i.faulty; needed = any_from (λ j. cone (deps_of s.shape) j b) wanted k.0 (h.failed k.0 (ap is_some k.1)).0 i.within }
+    let i : IsBlamed (WasKilled (job_of s op) es) (deps_of s.shape) (val (deps_of s.shape) op) k.0 b = blamed s op g (WasKilled (job_of s op) es) k.0 b (((true_after (job_of s op) g es l).clients 1).failed k.0 b told) in
+    fault_is s op wanted es w k.0 b n few q r i (any_from (λ j. cone (deps_of s.shape) j b) wanted k.0 (h.failed k.0 (ap is_some k.1)).0 i.within)
 
 -- where a simulation stands once it has opened
 pub standing_first : (p : Plan) (wanted : List ℕ) (w : World) (s : Standing) → IsPlan p → IsOpen wanted p.workers w → ((k : ℕ) → is_in k wanted ≡ true → k < key_count (shape_of w)) → s.passed ≡ 0 → s.evicts ≡ 0 → s.balances ≡ 0 → IsStanding p wanted w s

@@ -6,9 +6,9 @@ use Rattle.cluster_msgs.specs.declared.events.Event.{Event}
 use Rattle.cluster_msgs.specs.declared.events.Report.{Report}
 use Rattle.cluster_rules.specs.Sched.{Setting}
 use Rattle.cluster_rules.specs.World.{Job, IsJob, opening, rest}
-use Rattle.cluster_rules.specs.Runs.{legal, Safe}
+use Rattle.cluster_rules.specs.Runs.{legal, reached, Safe}
 use Rattle.cluster_rules.specs.Report.{Taken, taken, report}
-use Rattle.cluster_rules.specs.Draw.{Plan, Verdict, Served, OutOfTurns, opening_events, sim_from}
+use Rattle.cluster_rules.specs.Draw.{Plan, Verdict, OutOfTurns, opening_events, sim_from}
 use Rattle.run_report.specs.Counts.{IsCountOf}
 use Rattle.cluster_world.specs.declared.state.State.{State}
 use Rattle.cluster_world.specs.Worlds.{world, setting, running}
@@ -21,7 +21,11 @@ use Rattle.cluster_sim.specs.Passing.{first_standing}
 use Rattle.cluster_sim.specs.Openings.{IsOpening, AreWanted, HasOpened}
 use Rattle.cluster_sim.specs.Led.{one_left, IsLed, IsLeftAlone}
 use Rattle.cluster_sim.specs.Turns.{IsBetween, IsDrawn, HasServed, HasPlayed, HasHalted}
-use Rattle.cluster_sim.specs.Simulations.{IsReported, IsCut, IsStuck, IsDeserted, GoesOn, IsUnfinished, IfBlamed}
+use Rattle.cluster_sim.specs.Simulations.{IsSimulated, IsReported, IsCut, IsStuck, IsDeserted, GoesOn, IsUnfinished}
+use Rattle.std.specs.Option.{option_map}
+use Rattle.cluster_world.specs.Safe.{LosesFew}
+use Rattle.cluster_sim.specs.Faults.{fault_at, IfBlamed}
+use Rattle.cluster_sim.proofs.FaultLemmas.{draw_keeps}
 use Rattle.cluster_sim.specs.declared.position.Standing.{Standing}
 use Rattle.cluster_sim.specs.declared.run.Run.{Run}
 use Rattle.cluster_sim.proofs.CourseLemmas.{course_start, course_end}
@@ -105,8 +109,9 @@ halted_alone p wanted old new r same h = subst (λ (x : Setting). IsLeftAlone x 
 pub unfinished_by : (j : Job) (words : ℕ → ℕ) (p : Plan) (wanted : List ℕ) (many : ℕ) → ((es : List Event) → legal j es → Safe j es) → GoesOn j words p wanted many → IsUnfinished j words p wanted many
 unfinished_by j words p wanted many safe h = record { made = h; safe = safe (opening_events p wanted ++ h.later) h.legal }
 
-pub blamed_by : {J B F : Type 0} (op : J → ℕ → List B → Option B) (tells : J → F → Type 0) (p : Plan) (wanted : List ℕ) (number : ℕ) (failure : Option ℕ) (old new : State J B F) (r : Run) → IsShape (setting old).shape → Stays tells old new
-    → HasServed p wanted failure new r → ((es : List Event) → legal (running op old) es → Safe (running op old) es) → HasPlayed op tells p wanted number (Served r.standing.turns failure) new r → IfBlamed (deps_of (setting old).shape) (val (deps_of (setting old).shape) (op old.job)) wanted failure
-blamed_by op tells p wanted number failure old new r sound stays served safe h =
-    let c = cut_off op tells p wanted number (Served r.standing.turns failure) old new r stays safe h in
-    blame_is (setting old) (op old.job) wanted c.events (world new) failure sound c.simulated.legal c.simulated.reached served.between.standing.client served.over
+pub blamed_by : {J B F : Type 0} (op : J → ℕ → List B → Option B) (tells : J → F → Type 0) (p : Plan) (wanted : List ℕ) (number : ℕ) (v : Verdict) (failure : Option ℕ) (old new : State J B F) (r : Run) → IsShape (setting old).shape → Stays tells old new
+    → HasServed p wanted failure new r → ((es : List Event) → legal (running op old) es → LosesFew (reached (running op old) es).sched) → (es : List Event) → IsSimulated (running op old) (word_of number) p wanted es v (world new)
+    → IfBlamed (running op old) es (deps_of (setting old).shape) (val (deps_of (setting old).shape) (op old.job)) wanted (option_map (fault_at (world new)) failure)
+blamed_by op tells p wanted number v failure old new r sound stays served few es h =
+    blame_is (setting old) (op old.job) wanted es (world new) failure sound h.legal
+    (draw_keeps (running op old) (word_of number) p wanted es v h.drawn) (few es h.legal) (setting-world new ∙ stays.setting) h.reached served.between.standing.client served.over

@@ -9,13 +9,13 @@ use Rattle.cluster_msgs.specs.declared.messages.ToClient.{ToClient}
 use Rattle.cluster_msgs.specs.declared.messages.FromClient.{FromClient as ClientMessage}
 use Rattle.cluster_msgs.specs.declared.messages.Message.TheVariants.{ToClient as ToClientMessage}
 use Rattle.cluster_msgs.specs.declared.cores.SchedEvent.{SchedEvent}
-use Rattle.cluster_msgs.specs.declared.cores.SchedEvent.TheVariants.{Join as JoinSched, Leave, FromWorker, FromClient, Balance as BalanceSched, Evict as EvictSched}
+use Rattle.cluster_msgs.specs.declared.cores.SchedEvent.TheVariants.{Join as JoinSched, Leave, FromWorker, FromClient, Balance as BalanceSched, Evict as EvictSched, Replicate as ReplicateSched}
 use Rattle.cluster_msgs.specs.declared.cores.ClientEvent.{ClientEvent}
 use Rattle.cluster_msgs.specs.declared.cores.ClientEvent.TheVariants.{FromScheduler, Ask as ClientAsk, Gathered as ClientGathered, GatherFailed as ClientGatherFailed}
 use Rattle.cluster_msgs.specs.declared.events.Asker.{Asker}
 use Rattle.cluster_msgs.specs.declared.events.Asker.TheVariants.{Worker, Client}
 use Rattle.cluster_msgs.specs.declared.events.Event.{Event}
-use Rattle.cluster_msgs.specs.declared.events.Event.TheVariants.{Want, Release, Join, Lose, SeeLoss, Suspect, DeliverDown, DeliverUp, DeliverToClient, DeliverFromClient, Start, Finish, SendGather, ServeGather, ArriveGather, FailGather, Balance, Evict, Spill, LoseSpilled}
+use Rattle.cluster_msgs.specs.declared.events.Event.TheVariants.{Want, Release, Join, Lose, SeeLoss, Suspect, DeliverDown, DeliverUp, DeliverToClient, DeliverFromClient, Start, Finish, SendGather, ServeGather, ArriveGather, FailGather, Balance, Evict, Replicate, Spill, LoseSpilled}
 use Rattle.cluster_rules.specs.Functions.{put}
 use Rattle.cluster_rules.specs.Sched.{Facts}
 use Rattle.cluster_rules.specs.Worker.{Ask}
@@ -122,6 +122,7 @@ world_keeps j w (ArriveGather a p n) = answer_keeps w (parcel_of a p n w.answers
 world_keeps j w (FailGather a p) = ask_fails w a p (open_ask w a p)
 world_keeps j w Balance = at_sched w BalanceSched
 world_keeps j w Evict = at_sched w EvictSched
+world_keeps j w (Replicate k i) = at_sched w (ReplicateSched k i)
 world_keeps j w (Spill i k) = alike w (world_step j w (Spill i k)) refl
 world_keeps j w (LoseSpilled i k) = worker_alike w i _
 
@@ -207,5 +208,6 @@ quiet_step j w (ArriveGather a p n) h = q_answer _ w (parcel_of a p n w.answers)
 quiet_step j w (FailGather a p) h = q_fails _ w a p (open_ask w a p)
 quiet_step j w Balance h = still_sched _ w BalanceSched
 quiet_step j w Evict h = still_sched _ w EvictSched
+quiet_step j w (Replicate k i) h = still_sched _ w (ReplicateSched k i)
 quiet_step j w (Spill i k) h = stays _ (w.clients 1)
 quiet_step j w (LoseSpilled i k) h = still_worker _ w i _

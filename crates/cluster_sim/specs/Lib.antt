@@ -10,3 +10,4 @@ pub mod Turns
 pub mod Openings
 pub mod Simulations
 pub mod Led
+pub mod Faults

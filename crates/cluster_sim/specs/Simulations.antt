@@ -1,8 +1,7 @@
 -- What a simulation made, and how it ended.
-use Rattle.std.specs.Prelude.{◌≡◌, ◌≤◌, ℕ, true, false, List, ◌++◌, Option, Some, None, length}
+use Rattle.std.specs.Prelude.{◌≡◌, ◌≤◌, ℕ, true, false, List, ◌++◌, Some, None, length}
 use Rattle.cluster_msgs.specs.declared.events.Event.{Event}
 use Rattle.cluster_msgs.specs.declared.events.Report.{Report}
-use Rattle.cluster_msgs.specs.Values.{faulty, needed}
 use Rattle.cluster_rules.specs.Derived.{is_in}
 use Rattle.cluster_rules.specs.World.{Job, World, opening, is_connected}
 use Rattle.cluster_rules.specs.Worker.{has_any}
@@ -58,12 +57,3 @@ pub record IsUnfinished (j : Job) (words : ℕ → ℕ) (p : Plan) (wanted : Lis
 -- the client has got all that is wanted
 abbrev pub HasAll : World → List ℕ → Type 0
 HasAll w wanted = (k : ℕ) → is_in k wanted ≡ true → (w.clients 1).got k ≡ true
-
--- a blame: a key that is needed, and whose own operation meets a zero divisor
-pub record IsNeededFault {B : Type 0} (deps : ℕ → List ℕ) (value : ℕ → Option B) (wanted : List ℕ) (b : ℕ) : Type 0 where
-  pub faulty : faulty deps value b ≡ true
-  pub needed : needed deps wanted b ≡ true
-
-abbrev pub IfBlamed : {B : Type 0} → (ℕ → List ℕ) → (ℕ → Option B) → List ℕ → Option ℕ → Type 0
-IfBlamed deps value wanted None = Unit {0}
-IfBlamed deps value wanted (Some b) = IsNeededFault deps value wanted b

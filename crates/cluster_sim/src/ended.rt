@@ -5,8 +5,10 @@ ghost use Rattle.cluster_rules.specs.Client.{ClientFacts, client_keys};
 ghost use Rattle.cluster_rules.specs.Derived.{is_in};
 ghost use Rattle.cluster_rules.specs.World.{shape_of};
 ghost use Rattle.cluster_rules.specs.Draw.{over};
+ghost use Rattle.cluster_rules.specs.Sched.{is_above};
 ghost use Rattle.cluster_msgs.specs.Shape.{key_count};
 ghost use Rattle.cluster_world.specs.Worlds.{world as world_of};
+ghost use Rattle.cluster_sim.specs.Faults.{fault_at};
 ghost use Rattle.cluster_sim.specs.Seen.{IsSeen};
 ghost use Rattle.cluster_sim.specs.Standing.{IsFor};
 
@@ -21,6 +23,46 @@ pub const CLIENT: u32 = 1;
 #[derive(Clone, Copy)]
 pub struct Ending {
     pub failure: Option<u32>,
+}
+
+/// What the client's failure is blamed on: a key whose own operation met a zero divisor, or one that was killed, since its
+/// worker left more often than allowed while the key was assigned to it.
+#[derive(Clone, Copy)]
+pub enum Fault {
+    Zero { key: u32 },
+    Killed { key: u32, losses: u32 },
+}
+
+/// What the key of an end is to blame for, in the world where it ended.
+pub fn fault_of<J: JobSpec>(world: &World<J>, failure: Option<u32>) -> Option<Fault>
+    ensures { result ≡ option_map (fault_at (world_of world.now)) failure }
+{
+    match failure {
+        Some(key) => Some(fault_at(world, key)),
+        None => None,
+    }
+}
+
+/// A key that lost its worker more often than is allowed was killed; else its operation is at fault.
+fn fault_at<J: JobSpec>(world: &World<J>, key: u32) -> Fault
+    ensures { result ≡ fault_at (world_of world.now) key }
+{
+    let losses = world.losses(key);
+    if is_above(world.allowed(), losses) {
+        Fault::Killed { key, losses }
+    } else {
+        Fault::Zero { key }
+    }
+}
+
+/// Whether so many losses are more than are allowed.
+fn is_above(allowed: Option<u32>, losses: u32) -> bool
+    ensures { result ≡ is_above allowed losses }
+{
+    match allowed {
+        Some(most) => losses > most,
+        None => false,
+    }
 }
 
 /// The end, once the client has failed on a key, of which the least counts, or has got all that it wants, by what was seen of

@@ -1,5 +1,7 @@
 //! Whole simulations.
-ghost use Rattle.std.specs.Prelude.{◌≡◌, ◌↔◌, ℕ, None, Err, IfOk, OnOk};
+ghost use Rattle.std.specs.Prelude.{◌≡◌, ◌↔◌, ℕ, List, None, Err, IfOk, IfSome, OnOk};
+ghost use Rattle.std.specs.Option.{option_map};
+ghost use Rattle.cluster_msgs.specs.declared.events.Event.{Event};
 ghost use Rattle.cluster_msgs.specs.Shape.{key_count, deps_of};
 ghost use Rattle.cluster_msgs.specs.Values.{val};
 ghost use Rattle.cluster_rules.specs.Draw.{Served, over};
@@ -12,10 +14,11 @@ ghost use Rattle.cluster_sim.specs.Plans.{plan_of, IsPlan};
 ghost use Rattle.cluster_sim.specs.Openings.{IsOpening, AreWanted};
 ghost use Rattle.cluster_sim.specs.Turns.{IsBetween, IsDrawn, AfterPlay, DrawnPlay};
 ghost use Rattle.cluster_sim.specs.Led.{IsLeftAlone};
-ghost use Rattle.cluster_sim.specs.Simulations.{IsReported, IsDeserted, IsUnfinished, HasAll, IfBlamed};
+ghost use Rattle.cluster_sim.specs.Simulations.{IsSimulated, IsReported, IsDeserted, IsUnfinished, HasAll};
+ghost use Rattle.cluster_sim.specs.Faults.{key_of, IsBounded, IfBlamed};
 
 use crate::act::SimError;
-use crate::ended::Ending;
+use crate::ended::{Ending, Fault, fault_of};
 use crate::opening::make_opening;
 use crate::plan::SimPlan;
 use crate::position::Standing;
@@ -28,13 +31,13 @@ use cluster_world::World;
 use run_report::Tally;
 use std::alloc::Global;
 
-/// How a simulation ended: after so many turns, with the report of its events, and with the key to blame where the client
+/// How a simulation ended: after so many turns, with the report of its events, and with what is to blame where the client
 /// was told of a failure.
 #[derive(Drop)]
 pub struct SimEnd {
     pub turns: u64,
     pub report: Report,
-    pub zero: Option<u32>,
+    pub fault: Option<Fault>,
 }
 
 /// Simulates a cluster until client 1 has got all wanted keys or was told of a failure: of those that it failed on, the
@@ -63,17 +66,22 @@ pub fn simulate<J: JobSpec>(
 
     // The events are those that are drawn, to this end, with their report.
     ensures served { IfOk result (λ end. J.feed_tells world.old.job world.old.feed →
-        IsReported (running J.operation world.old) (word_of number) (plan_of plan.now) wanted.now (Served end.turns end.zero) (world_of world.new) end.report) }
+        IsReported (running J.operation world.old) (word_of number) (plan_of plan.now) wanted.now (Served end.turns (option_map key_of end.fault)) (world_of world.new) end.report) }
     ensures deserted { result ≡ Err SimError.Stuck → J.feed_tells world.old.job world.old.feed →
         IsDeserted (running J.operation world.old) (word_of number) (plan_of plan.now) wanted.now (world_of world.new) }
 
     ensures made { OnOk result (J.feed_tells world.old.job world.old.feed → IsMade J.operation world.new) }
     ensures going { OnOk result (world.new.course ≡ Going) }
 
-    // A failure names a needed key at fault, and comes exactly where the client hasn't got all.
-    ensures all { IfOk result (λ end. (end.zero ≡ None) ↔ HasAll (world_of world.new) wanted.now) }
+    // A failure names a needed key that is at fault or was killed by these events, and comes exactly where the client hasn't
+    // got all.
+    ensures all { IfOk result (λ end. (end.fault ≡ None) ↔ HasAll (world_of world.new) wanted.now) }
     ensures blame { IfOk result (λ end. J.feed_tells world.old.job world.old.feed →
-        IfBlamed (deps_of (setting world.old).shape) (val (deps_of (setting world.old).shape) (J.operation world.old.job)) wanted.now end.zero) }
+        (es : List Event) → IsSimulated (running J.operation world.old) (word_of number) (plan_of plan.now) wanted.now es (Served end.turns (option_map key_of end.fault)) (world_of world.new) →
+        IfBlamed (running J.operation world.old) es (deps_of (setting world.old).shape) (val (deps_of (setting world.old).shape) (J.operation world.old.job)) wanted.now end.fault) }
+
+    // Told or not, a killed key comes with one loss more than is allowed, and no more than the script takes workers away.
+    ensures bounded { IfOk result (λ end. IfSome end.fault (IsBounded (setting world.old).allowed (plan_of plan.now).script)) }
 
     // The causes of what is no result, and what stays.
     ensures faults { CountsSim result (J.fault_count world.old.feed) (J.fault_count world.new.feed) }
@@ -101,10 +109,11 @@ pub fn simulate<J: JobSpec>(
     };
     let end = play(world, plan, wanted, &mut run)?;
     let report = run.tally.report(alloc, world.shape())?;
+    let fault = fault_of(world, end.failure);
     Ok(SimEnd {
         turns: run.standing.turns,
         report,
-        zero: end.failure,
+        fault,
     })
 }
 

@@ -18,6 +18,10 @@ pub fn read_event(words: &mut Words<'_>) -> Event {
             client: words.small(),
             keys: words.keys(),
         },
+        "replicate" => Event::Replicate {
+            key: words.small(),
+            worker: words.small(),
+        },
         "serve-gather" => Event::ServeGather {
             peer: words.small(),
             asker: words.asker(),
@@ -91,6 +95,7 @@ fn name_of(event: &Event) -> &'static str {
         Event::FailGather { .. } => "fail-gather",
         Event::Balance => "balance",
         Event::Evict => "evict",
+        Event::Replicate { .. } => "replicate",
         Event::Spill { .. } => "spill",
         Event::LoseSpilled { .. } => "lose-spilled",
     }
@@ -146,6 +151,7 @@ pub fn print_event(page: &mut Page, event: &Event) {
             print_ask(page, *asker, &[*peer as u64, *ask])
         }
         Event::ServeGather { peer, asker, ask } => print_served(page, *peer, *asker, *ask),
+        Event::Replicate { key, worker } => page.numbers("", &[*key as u64, *worker as u64]),
         Event::Balance | Event::Evict => {}
     }
 }

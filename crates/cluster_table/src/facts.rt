@@ -33,6 +33,15 @@ pub fn print_phases(page: &mut Page, core: &Sched) {
     page.put("\n");
 }
 
+/// How often each key lost its worker, also the key behind the last.
+pub fn print_losses(page: &mut Page, core: &Sched) {
+    page.put("  lost");
+    for key in 0..=core.shape().keys() {
+        page.item(" ", core.losses(key));
+    }
+    page.put("\n");
+}
+
 /// Which keys are in the cone of a wanted key.
 pub fn print_known(page: &mut Page, core: &Sched) {
     page.put("  known");

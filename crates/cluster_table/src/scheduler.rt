@@ -1,9 +1,10 @@
 //! Stories of the scheduler.
 //!
-//! The first line has the number of clients, the saturation in tenths and the graph. An event is `join THREADS`,
-//! `leave WORKER`, `worker WORKER MESSAGE`, `client CLIENT MESSAGE`, `balance` or `evict`. The line `facts` asks for all that
-//! policies ask of the scheduler, and for what they answer.
-use crate::facts::{print_facts, print_known, print_phases};
+//! The first line has the number of clients, the saturation in tenths, with the losses that are allowed behind it where these are
+//! bounded, and the graph. An event is `join THREADS`, `leave WORKER`, `worker WORKER MESSAGE`, `client CLIENT MESSAGE`,
+//! `balance`, `evict` or `replicate KEY WORKER`. The line `facts` asks for all that policies ask of the scheduler, and for what
+//! they answer; `losses` asks how often each key lost its worker.
+use crate::facts::{print_facts, print_known, print_losses, print_phases};
 use crate::graph::read_graph;
 use crate::messages::{read_from_client, read_up};
 use crate::page::Page;
@@ -30,6 +31,10 @@ fn read_event(words: &mut Words<'_>) -> SchedEvent {
         },
         "balance" => SchedEvent::Balance,
         "evict" => SchedEvent::Evict,
+        "replicate" => SchedEvent::Replicate {
+            key: words.small(),
+            w: words.small(),
+        },
         _ => {
             words.mark_ill();
             SchedEvent::Evict
@@ -100,6 +105,8 @@ fn play_lines(page: &mut Page, alloc: Global, core: &mut Sched, events: &str) {
         page.line(line);
         if line == "facts" {
             print_all(page, core);
+        } else if line == "losses" {
+            print_losses(page, core);
         } else {
             play_line(page, core, &mut Words::of(alloc, line));
         }
@@ -109,12 +116,12 @@ fn play_lines(page: &mut Page, alloc: Global, core: &mut Sched, events: &str) {
 /// Plays a story of the scheduler.
 pub fn play(page: &mut Page, words: &mut Words<'_>, events: &str) {
     let clients = words.small();
-    let saturation = words.small();
+    let (saturation, allowed) = words.bounded();
     if clients > 16 || saturation < 1 || saturation > 1000 {
         return page.fault(Fault::Ill);
     }
     match read_graph(words) {
-        Ok(shape) => match Sched::new(words.alloc(), shape, clients, saturation) {
+        Ok(shape) => match Sched::new(words.alloc(), shape, clients, saturation, allowed) {
             Ok(mut core) => {
                 play_lines(page, words.alloc(), &mut core, events);
                 drop(core);

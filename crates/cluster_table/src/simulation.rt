@@ -1,5 +1,5 @@
-//! Stories of a simulation, which are their first lines: how many workers and threads, the number, the script, the
-//! wanted keys, what the feed has and whether it fails, and the graph.
+//! Stories of a simulation, which are their first lines: how many workers and threads, with the losses that are allowed behind
+//! these where they are bounded, the number, the script, the wanted keys, what the feed has and whether it fails, and the graph.
 ghost use Rattle.std.specs.Prelude.{◌≡◌, IfOk};
 ghost use Rattle.cluster_msgs.specs.Shape.{key_count};
 ghost use Rattle.cluster_world.specs.Worlds.{setting};
@@ -14,18 +14,23 @@ use crate::words::Words;
 use crate::world::quotients::Quotients;
 use crate::world::{print_faults, print_key};
 use cluster_msgs::JobSpec;
-use cluster_sim::{SimEnd, SimError, simulate};
+use cluster_sim::{Fault, SimEnd, SimError, simulate};
 use cluster_world::World;
 use setup::{Setup, read_setup};
 use std::alloc::{AllocError, Global};
 
 // A world with one client, in which nothing has happened.
-fn opened<J: JobSpec>(alloc: Global, job: J, feed: J::Feed) -> Result<World<J>, AllocError>
+fn opened<J: JobSpec>(
+    alloc: Global,
+    job: J,
+    feed: J::Feed,
+    allowed: Option<u32>,
+) -> Result<World<J>, AllocError>
     requires { J.feed_fits job feed }
     ensures opening { IfOk result (λ w. IsOpening J.operation w) }
     ensures graph { IfOk result (λ w. (setting w).shape ≡ J.graph job) }
 {
-    World::new(alloc, job, feed, 1, 11)
+    World::new(alloc, job, feed, 1, 11, allowed)
 }
 
 fn cause_of(error: SimError) -> &'static str {
@@ -39,8 +44,13 @@ fn cause_of(error: SimError) -> &'static str {
 
 fn print_told(page: &mut Page, end: &SimEnd) {
     page.item("turns ", end.turns);
-    if let Some(blame) = end.zero {
-        page.item(" blame ", blame);
+    match end.fault {
+        Some(Fault::Zero { key }) => page.item(" blame ", key),
+        Some(Fault::Killed { key, losses }) => page.numbers(
+            " killed",
+            &[key as u64, losses as u64],
+        ),
+        None => {}
     }
     page.put("\n");
     print_report(page, &end.report);
@@ -70,12 +80,13 @@ fn run(page: &mut Page, alloc: Global, setup: Setup)
 {
     let Setup {
         plan,
+        allowed,
         number,
         wanted,
         job,
         feed,
     } = setup;
-    match opened(alloc, job, feed) {
+    match opened(alloc, job, feed, allowed) {
         Ok(mut world) => {
             print_end(page, &simulate(alloc, &mut world, number, &plan, &wanted));
             print_wanted(page, &world, wanted.as_slice());

@@ -1,7 +1,8 @@
 //! The words of a line: numbers and lists are read from them.
 //!
 //! Members of a list stand between commas, and `-` is the list without members. A holder is `worker@copy`, and a key with its
-//! holders is `key=holder+holder`. A worker that asks for blocks is `w1`, and a client `c1`.
+//! holders is `key=holder+holder`. A worker that asks for blocks is `w1`, and a client `c1`. A number with a bound of losses behind
+//! it is `11/2`.
 use cluster_msgs::{Asker, Holders, KeyList, WhoHas};
 use std::alloc::{AllocError, Global};
 
@@ -92,6 +93,15 @@ impl<'a> Words<'a> {
     pub fn small(&mut self) -> u32 {
         let word = self.word();
         self.small_of(word)
+    }
+
+    /// The next number, and the one behind a slash in its word: how often a key's worker may leave, where that is bounded.
+    pub fn bounded(&mut self) -> (u32, Option<u32>) {
+        let word = self.word();
+        match word.split_once('/') {
+            Some((number, most)) => (self.small_of(number), Some(self.small_of(most))),
+            None => (self.small_of(word), None),
+        }
     }
 
     /// The next truth value.

@@ -1,5 +1,6 @@
-//! Stories of a world: its clients, its saturation, what its feed has and whether it fails, and its graph, and then an event
-//! a line. `go` takes the first event that makes progress, so many times.
+//! Stories of a world: its clients, its saturation, with the losses that are allowed behind it where these are bounded, what its
+//! feed has and whether it fails, and its graph, and then an event a line. `go` takes the first event that makes progress, so
+//! many times; `losses` asks how often each key lost its worker.
 ghost use Rattle.std.specs.Prelude.{◌≡◌, ◌≤◌, IfOk};
 
 pub mod quotients;
@@ -77,8 +78,20 @@ fn take(page: &mut Page, world: &mut World<Quotients>, words: &mut Words<'_>) {
     drop(event);
 }
 
+// How often each key lost its worker.
+fn print_losses(page: &mut Page, world: &World<Quotients>) {
+    page.put("\n  lost");
+    for key in 0..world.shape().keys() {
+        page.item(" ", world.losses(key));
+    }
+    page.put("\n");
+}
+
 fn play_line(page: &mut Page, alloc: Global, world: &mut World<Quotients>, line: &str) {
     page.put(line);
+    if line == "losses" {
+        return print_losses(page, world);
+    }
     match line.strip_prefix("go ") {
         Some(turns) => go(page, world, turns.parse::<u32>().unwrap_or(0)),
         None => take(page, world, &mut Words::of(alloc, line)),
@@ -178,6 +191,7 @@ fn play_opened(
     opening: Opening,
     clients: u32,
     saturation: u32,
+    allowed: Option<u32>,
     events: &str,
 )
     requires clients { clients ≤ 16 }
@@ -185,7 +199,7 @@ fn play_opened(
     requires feed { opening.feed.value ≡ opening.job.content }
 {
     let Opening { job, feed } = opening;
-    match World::new(alloc, job, feed, clients, saturation) {
+    match World::new(alloc, job, feed, clients, saturation, allowed) {
         Ok(mut world) => {
             play_lines(page, alloc, &mut world, events);
             print_faults(page, world);
@@ -197,12 +211,20 @@ fn play_opened(
 /// Plays a story of a world.
 pub fn play(page: &mut Page, words: &mut Words<'_>, events: &str) {
     let clients = words.small();
-    let saturation = words.small();
+    let (saturation, allowed) = words.bounded();
     if clients > 16 || saturation < 1 || saturation > 1000 {
         return page.fault(Fault::Ill);
     }
     match read_opening(words) {
-        Ok(opening) => play_opened(page, words.alloc(), opening, clients, saturation, events),
+        Ok(opening) => play_opened(
+            page,
+            words.alloc(),
+            opening,
+            clients,
+            saturation,
+            allowed,
+            events,
+        ),
         Err(fault) => page.fault(fault),
     }
 }

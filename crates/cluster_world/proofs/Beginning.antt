@@ -16,11 +16,11 @@ use Rattle.cluster_world.specs.Begun.{IsBegun}
 use Rattle.cluster_world.proofs.Making.{made_opening}
 use Rattle.cluster_world.proofs.Whole.{whole_opening}
 
-module _ {J B F : Type 0} (job : J) (feed : F) (g : Shape) (clients saturation : ℕ) (s : State J B F) (h : IsBegun job feed g clients saturation s) where
-  same_setting : setting s ≡ setting_of g clients saturation
+module _ {J B F : Type 0} (job : J) (feed : F) (g : Shape) (clients saturation : ℕ) (allowed : Option ℕ) (s : State J B F) (h : IsBegun job feed g clients saturation allowed s) where
+  same_setting : setting s ≡ setting_of g clients saturation allowed
   same_setting = ap (λ (f : Facts). f.setting) h.sched
 
-  pub begun_cluster : (op : ℕ → List B → Option B) → cluster s ≡ opening_cluster (setting_of g clients saturation) op
+  pub begun_cluster : (op : ℕ → List B → Option B) → cluster s ≡ opening_cluster (setting_of g clients saturation allowed) op
   begun_cluster op = ap (λ (f : Facts). cluster_of f s.nodes) h.sched ∙ h.cluster
 
   from_here : (op : ℕ → List B → Option B) → cluster s ≡ opening_cluster (setting s) op
@@ -51,12 +51,12 @@ module _ {J B F : Type 0} (job : J) (feed : F) (g : Shape) (clients saturation :
       }
 
 -- of its parts
-pub begun_by : {J B F : Type 0} (job : J) (feed : F) (g : Shape) (clients saturation : ℕ) (s : State J B F) (core : Core) (n : Nodes B)
+pub begun_by : {J B F : Type 0} (job : J) (feed : F) (g : Shape) (clients saturation : ℕ) (allowed : Option ℕ) (s : State J B F) (core : Core) (n : Nodes B)
     → s.job ≡ job → s.feed ≡ feed → s.clients ≡ clients → s.sched ≡ core → s.nodes ≡ n → s.course ≡ Going → s.events ≡ 0
-    → facts core ≡ sched_opening (setting_of g clients saturation) → IsNodes n → n.shape ≡ g → length n.workers.items ≡ 1 → length n.clients.items ≡ clients + 1 → TookFew 0 n → core.taken ≡ 0
-    → cluster_of (sched_opening (setting_of g clients saturation)) n ≡ record { world = opening (record { setting = setting_of g clients saturation; zero = λ k. false }); blocks = no_blocks }
-    → IsBegun job feed g clients saturation s
-begun_by {B = B} job feed g clients saturation s core n j f c se ne co ev fs ns sh ws cs fw ta cl = record {
+    → facts core ≡ sched_opening (setting_of g clients saturation allowed) → IsNodes n → n.shape ≡ g → length n.workers.items ≡ 1 → length n.clients.items ≡ clients + 1 → TookFew 0 n → core.taken ≡ 0
+    → cluster_of (sched_opening (setting_of g clients saturation allowed)) n ≡ record { world = opening (record { setting = setting_of g clients saturation allowed; zero = λ k. false }); blocks = no_blocks }
+    → IsBegun job feed g clients saturation allowed s
+begun_by {B = B} job feed g clients saturation allowed s core n j f c se ne co ev fs ns sh ws cs fw ta cl = record {
   job_is = j;
   feed_is = f;
   counted = c;
@@ -68,5 +68,5 @@ begun_by {B = B} job feed g clients saturation s core n j f c se ne co ev fs ns 
   workers = ap (λ (x : Nodes B). length x.workers.items) ne ∙ ws;
   clients_there = ap (λ (x : Nodes B). length x.clients.items) ne ∙ cs;
   few = (subst (λ (x : Nodes B). TookFew 0 x) (sym ne) fw, let e = ap (λ (x : Core). x.taken) se in omega (arith, e, ta));
-  cluster = ap (λ (x : Nodes B). cluster_of (sched_opening (setting_of g clients saturation)) x) ne ∙ cl;
+  cluster = ap (λ (x : Nodes B). cluster_of (sched_opening (setting_of g clients saturation allowed)) x) ne ∙ cl;
 }

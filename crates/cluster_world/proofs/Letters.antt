@@ -13,7 +13,7 @@ use Rattle.cluster_msgs.specs.declared.messages.FromClient.{FromClient as Client
 use Rattle.cluster_msgs.specs.declared.messages.FromClient.TheVariants.{Want as WantMessage, Release as ReleaseMessage, Missing as MissingMessage}
 use Rattle.cluster_msgs.specs.declared.cores.Steal.{Steal}
 use Rattle.cluster_msgs.specs.declared.cores.SchedEvent.{SchedEvent}
-use Rattle.cluster_msgs.specs.declared.cores.SchedEvent.TheVariants.{Join as JoinSched, Leave, FromWorker, FromClient, Balance as BalanceSched, Evict as EvictSched}
+use Rattle.cluster_msgs.specs.declared.cores.SchedEvent.TheVariants.{Join as JoinSched, Leave, FromWorker, FromClient, Balance as BalanceSched, Evict as EvictSched, Replicate as ReplicateSched}
 use Rattle.cluster_msgs.specs.declared.cores.WorkerEvent.{WorkerEvent}
 use Rattle.cluster_msgs.specs.declared.cores.WorkerEvent.TheVariants.{Down as Told, Start as StartTask, Done, Ask as AskPeer, Gathered, GatherFailed, DataLost}
 use Rattle.cluster_msgs.specs.declared.cores.ClientEvent.{ClientEvent}
@@ -21,7 +21,7 @@ use Rattle.cluster_msgs.specs.declared.cores.ClientEvent.TheVariants.{Want as Wa
 use Rattle.cluster_msgs.specs.declared.events.Asker.{Asker}
 use Rattle.cluster_msgs.specs.declared.events.Asker.TheVariants.{Worker, Client}
 use Rattle.cluster_msgs.specs.declared.events.Event.{Event}
-use Rattle.cluster_msgs.specs.declared.events.Event.TheVariants.{Want, Release, Join, Lose, SeeLoss, Suspect, DeliverDown, DeliverUp, DeliverToClient, DeliverFromClient, Start, Finish, SendGather, ServeGather, ArriveGather, FailGather, Balance, Evict, Spill, LoseSpilled}
+use Rattle.cluster_msgs.specs.declared.events.Event.TheVariants.{Want, Release, Join, Lose, SeeLoss, Suspect, DeliverDown, DeliverUp, DeliverToClient, DeliverFromClient, Start, Finish, SendGather, ServeGather, ArriveGather, FailGather, Balance, Evict, Replicate, Spill, LoseSpilled}
 use Rattle.cluster_rules.specs.Functions.{put, put_pair}
 use Rattle.cluster_rules.specs.Policies.{next_steal, next_drop}
 use Rattle.cluster_rules.specs.Sched.{Setting, Facts, holds, held, is_on}
@@ -84,6 +84,7 @@ reply_goes P f (FromClient c (ReleaseMessage ks)) h p r = absurd (none-some p r)
 reply_goes P f (FromClient c (MissingMessage k x copy)) h p r = subst (λ (q : ℕ × ℕ). P q.0) (same_Some (c, k) p r) (h c (MissingMessage k x copy) refl)
 reply_goes P f BalanceSched h p r = absurd (none-some p (sym (balanced_reply f (next_steal f)) ∙ r))
 reply_goes P f EvictSched h p r = absurd (none-some p (sym (evicted_reply f (next_drop f)) ∙ r))
+reply_goes P f (ReplicateSched k w) h p r = absurd (none-some p r)
 
 -- the scheduler takes messages only of clients that are there
 pub reply_there : (f : Facts) (e : SchedEvent) → sched_takes f e ≡ true → (p : ℕ × ℕ) → (change f e).reply ≡ Some p → p.0 ≤ f.setting.clients
@@ -220,6 +221,9 @@ no_balance c m e = cc
 no_evict : (c : ℕ) (m : ClientMessage) → EvictSched ≡ FromClient c m → ⊥
 no_evict c m e = cc
 
+no_replicate : (k i c : ℕ) (m : ClientMessage) → ReplicateSched k i ≡ FromClient c m → ⊥
+no_replicate k i c m e = cc
+
 go_step : (j : Job) (w : World) (e : Event) → enabled w e ≡ true → AreAddressed w → AreAddressed (world_step j w e)
 unfolding world_step enabled
 go_step j w (Want c ks) t h = go_client w c (WantKeys ks) (and_parts (is_client w c) (are_named w ks) t).0 h
@@ -241,6 +245,7 @@ go_step j w (ArriveGather a p n) t h = go_take_answer w (parcel_of a p n w.answe
 go_step j w (FailGather a p) t h = go_fail_ask w a p (open_ask w a p) (and_parts (is_asker w a) _ t).0 h
 go_step j w Balance t h = go_alone w BalanceSched no_balance h
 go_step j w Evict t h = go_alone w EvictSched no_evict h
+go_step j w (Replicate k i) t h = go_alone w (ReplicateSched k i) (no_replicate k i) h
 go_step j w (Spill i k) t h = record { to_client = h.to_client; from_client = h.from_client }
 go_step j w (LoseSpilled i k) t h = go_worker w i (DataLost k) h
 

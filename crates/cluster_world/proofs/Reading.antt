@@ -1,5 +1,4 @@
--- What a world that legal events made tells: blocks are the values of their keys, and failures are blamed on faulty keys.
-use Rattle.cluster_laws.specs.Truth.{no_excuse}
+-- What a world that legal events made tells: blocks are the values of their keys, and failures are blamed on keys that are faulty or were killed.
 use Rattle.std.proofs.Common.{◌≡◌, ℕ, Bool, true, false, List, Option, Some, None, refl, sym, ap, ◌∙◌, subst, cond, is_some, Bor}
 use Rattle.std.specs.Prelude.{IfSome}
 use Rattle.std.specs.Option.{option_copied, option_map}
@@ -11,7 +10,7 @@ use Rattle.cluster_msgs.specs.declared.cores.End.TheVariants.{Got, Erred}
 use Rattle.cluster_rules.specs.Sched.{Setting}
 use Rattle.cluster_rules.specs.World.{World}
 use Rattle.cluster_rules.specs.Client.{done}
-use Rattle.cluster_rules.specs.Runs.{legal, reached}
+use Rattle.cluster_rules.specs.Runs.{legal, reached, WasKilled}
 use Rattle.cluster_laws.proofs.TruthWorld.{true_after}
 use Rattle.cluster_laws.specs.Blocks.{Cluster, job_of, opening_cluster}
 use Rattle.cluster_laws.specs.Moves.{cluster_run}
@@ -19,7 +18,7 @@ use Rattle.cluster_laws.specs.AreValues.{AreValues, IsBlamed}
 use Rattle.cluster_laws.proofs.BlockValues.{values_of, blamed}
 use Rattle.cluster_world.specs.Kept.{IsFilled}
 use Rattle.cluster_world.specs.Steps.{IfBlamed}
-use Rattle.cluster_world.specs.Worlds.{cluster, world, setting, IsMade}
+use Rattle.cluster_world.specs.Worlds.{cluster, world, setting, running, IsMade, IsMadeBy}
 use Rattle.cluster_world.specs.declared.state.State.{State}
 
 pub filled_is : {B : Type 0} {P : B → Type 0} (counted : Bool) (block : Option B) → IsFilled P counted block → is_some block ≡ counted
@@ -33,13 +32,13 @@ module _ {B : Type 0} (s : Setting) (op : ℕ → List B → Option B) (g : IsSh
   pub got_value : (x k : ℕ) (b : B) → c.blocks.got x k ≡ Some b → val (deps_of s.shape) op k ≡ Some b
   got_value x k b e = (values_here.got x k).right b e
 
-  failed_blamed : (x k b : ℕ) → (c.world.clients x).failed k ≡ Some b → IsBlamed (deps_of s.shape) (val (deps_of s.shape) op) k b
-  failed_blamed x k b e = blamed s op g k b (((true_after no_excuse (job_of s op) g es l).clients x).failed k b (ap (λ (w : World). (w.clients x).failed k) to ∙ e))
+  failed_blamed : (x k b : ℕ) → (c.world.clients x).failed k ≡ Some b → IsBlamed (WasKilled (job_of s op) es) (deps_of s.shape) (val (deps_of s.shape) op) k b
+  failed_blamed x k b e = blamed s op g (WasKilled (job_of s op) es) k b (((true_after (job_of s op) g es l).clients x).failed k b (ap (λ (w : World). (w.clients x).failed k) to ∙ e))
 
-  pub done_blamed : (x k : ℕ) → IfBlamed (deps_of s.shape) (val (deps_of s.shape) op) k (done (c.world.clients x) k)
+  pub done_blamed : (x k : ℕ) → IfBlamed (WasKilled (job_of s op) es) (deps_of s.shape) (val (deps_of s.shape) op) k (done (c.world.clients x) k)
   done_blamed x k = pick ((c.world.clients x).got k) ((c.world.clients x).failed k) refl
     where
-      pick : (b : Bool) (o : Option ℕ) → (c.world.clients x).failed k ≡ o → IfBlamed (deps_of s.shape) (val (deps_of s.shape) op) k (cond b (Some Got) (option_map (λ b. Erred b) o))
+      pick : (b : Bool) (o : Option ℕ) → (c.world.clients x).failed k ≡ o → IfBlamed (WasKilled (job_of s op) es) (deps_of s.shape) (val (deps_of s.shape) op) k (cond b (Some Got) (option_map (λ b. Erred b) o))
       pick true o e = tt
       pick false None e = tt
       pick false (Some b) e = failed_blamed x k b e
@@ -56,7 +55,7 @@ module _ {J B F : Type 0} (graph : J → Shape) (op : J → ℕ → List B → O
       (λ b q. subst (λ (g : Shape). val (deps_of g) (op s.job) k ≡ Some b) e (got_value (setting s) (op s.job) (subst IsShape (sym e) low) (cluster s) r.events r.made.run.legal r.made.run.reached r.made.blocks x k b q))
 
   -- and how its keys ended
-  pub done_here : (o : Option End) (x k : ℕ) → o ≡ done ((world s).clients x) k → IsMade op s
-      → IfBlamed (deps_of (graph s.job)) (val (deps_of (graph s.job)) (op s.job)) k o
-  done_here o x k h r = subst (λ (q : Option End). IfBlamed (deps_of (graph s.job)) (val (deps_of (graph s.job)) (op s.job)) k q) (sym h)
-      (subst (λ (g : Shape). IfBlamed (deps_of g) (val (deps_of g) (op s.job)) k (done ((world s).clients x) k)) e (done_blamed (setting s) (op s.job) (subst IsShape (sym e) low) (cluster s) r.events r.made.run.legal r.made.run.reached r.made.blocks x k))
+  pub done_here : (o : Option End) (x k : ℕ) → o ≡ done ((world s).clients x) k → (es : List Event) → IsMadeBy op es s
+      → IfBlamed (WasKilled (running op s) es) (deps_of (graph s.job)) (val (deps_of (graph s.job)) (op s.job)) k o
+  done_here o x k h es r = subst (λ (q : Option End). IfBlamed (WasKilled (running op s) es) (deps_of (graph s.job)) (val (deps_of (graph s.job)) (op s.job)) k q) (sym h)
+      (subst (λ (g : Shape). IfBlamed (WasKilled (running op s) es) (deps_of g) (val (deps_of g) (op s.job)) k (done ((world s).clients x) k)) e (done_blamed (setting s) (op s.job) (subst IsShape (sym e) low) (cluster s) es r.run.legal r.run.reached r.blocks x k))

@@ -9,11 +9,11 @@ use Rattle.cluster_msgs.specs.declared.messages.Down.{Down}
 use Rattle.cluster_msgs.specs.declared.messages.Up.{Up}
 use Rattle.cluster_msgs.specs.declared.messages.ToClient.{ToClient}
 use Rattle.cluster_msgs.specs.declared.messages.FromClient.{FromClient as ClientMessage}
-use Rattle.cluster_msgs.specs.declared.cores.SchedEvent.TheVariants.{Join as JoinSched, Leave, FromClient, Balance as BalanceSched, Evict as EvictSched}
+use Rattle.cluster_msgs.specs.declared.cores.SchedEvent.TheVariants.{Join as JoinSched, Leave, FromClient, Balance as BalanceSched, Evict as EvictSched, Replicate as ReplicateSched}
 use Rattle.cluster_msgs.specs.declared.cores.WorkerEvent.TheVariants.{Down as Told, Start as StartTask, Done, Ask as AskPeer, GatherFailed, DataLost}
 use Rattle.cluster_msgs.specs.declared.cores.ClientEvent.TheVariants.{Want as WantKeys, Release as ReleaseKeys, FromScheduler, Ask as ClientAsk, GatherFailed as ClientGatherFailed}
 use Rattle.cluster_msgs.specs.declared.events.Asker.TheVariants.{Worker, Client}
-use Rattle.cluster_msgs.specs.declared.events.Event.TheVariants.{Want, Release, Join, Lose, SeeLoss, Suspect, DeliverDown, DeliverUp, DeliverToClient, DeliverFromClient, Start, Finish, SendGather, FailGather, Balance, Evict, Spill, LoseSpilled}
+use Rattle.cluster_msgs.specs.declared.events.Event.TheVariants.{Want, Release, Join, Lose, SeeLoss, Suspect, DeliverDown, DeliverUp, DeliverToClient, DeliverFromClient, Start, Finish, SendGather, FailGather, Balance, Evict, Replicate, Spill, LoseSpilled}
 use Rattle.cluster_rules.specs.Functions.{put}
 use Rattle.cluster_rules.specs.Worker.{Ask, has_any, new_worker, would_start}
 use Rattle.cluster_rules.specs.World.{World, shape_of, is_connected, open_ask}
@@ -51,6 +51,10 @@ module _ {B : Type 0} (o : Option B) (c : Cluster B) (tidy : IsTidy c.world c.bl
   pub evict_is : in_world c (at_scheduler w EvictSched) ≡ stepped o c Evict
   unfolding world_step brought starts carried_after scheduled
   evict_is = λ t. record { world = at_scheduler w EvictSched; blocks = same_blocks op w b Evict tidy w refl refl (at_scheduler w EvictSched) refl refl (record { brought = λ a k. refl; starts = λ x k. refl; carried = refl }) t }
+
+  pub replicate_is : (k i : ℕ) → in_world c (at_scheduler w (ReplicateSched k i)) ≡ stepped o c (Replicate k i)
+  unfolding world_step brought starts carried_after scheduled
+  replicate_is k i = λ t. record { world = at_scheduler w (ReplicateSched k i); blocks = same_blocks op w b (Replicate k i) tidy w refl refl (at_scheduler w (ReplicateSched k i)) refl refl (record { brought = λ a q. refl; starts = λ x q. refl; carried = refl }) t }
 
   -- messages to the scheduler
   up_is : (i : ℕ) (us : List Up) → in_world c (take_up_first w i us) ≡ record { world = take_up_first w i us; blocks = blocks_after op w (take_up_first w i us) b (DeliverUp i) }

@@ -11,7 +11,7 @@ use Rattle.cluster_msgs.specs.declared.cores.WorkerEvent.TheVariants as work
 use Rattle.cluster_msgs.specs.declared.cores.ClientEvent.TheVariants as client
 use Rattle.cluster_msgs.specs.declared.events.Asker.{Asker}
 use Rattle.cluster_msgs.specs.declared.events.Asker.TheVariants.{Worker, Client}
-use Rattle.cluster_msgs.specs.declared.events.Event.TheVariants.{Want, Release, Join, Suspect, SendGather, Balance, Evict, LoseSpilled}
+use Rattle.cluster_msgs.specs.declared.events.Event.TheVariants.{Want, Release, Join, Suspect, SendGather, Balance, Evict, Replicate, LoseSpilled}
 use Rattle.cluster_rules.specs.SchedTable.{sched_takes}
 use Rattle.cluster_rules.specs.Worker.{would_start}
 use Rattle.cluster_rules.specs.WorkerStep.{worker_takes}
@@ -124,6 +124,10 @@ module _ {J B F : Type 0} (s : State J B F) (j : IsJoint s) where
   pub takes_evict : enabled w Evict ≡ true → sched_takes (facts s.sched) sched.Evict ≡ true
   unfolding enabled world_of
   takes_evict e = e
+
+  pub takes_replicate : (k i : ℕ) → enabled w (Replicate k i) ≡ true → sched_takes (facts s.sched) (sched.Replicate k i) ≡ true
+  unfolding enabled world_of
+  takes_replicate k i e = e
 
   -- while the world may take an event, each core may
   pub has_room : s.events < event_limit → s.sched.taken < event_limit

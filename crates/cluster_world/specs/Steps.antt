@@ -29,8 +29,8 @@ Advances Fits tells op e (Err NotEnabled) old new = ⊥
 Advances Fits tells op e (Err Stopped) old new = ⊥
 Advances Fits tells op e (Err Spent) old new = ⊥
 
--- where a key has erred at a client, it is blamed on a faulty key in its cone
-abbrev pub IfBlamed : {B : Type 0} → (ℕ → List ℕ) → (ℕ → Option B) → ℕ → Option End → Type 0
-IfBlamed deps value k None = Unit {0}
-IfBlamed deps value k (Some Got) = Unit {0}
-IfBlamed deps value k (Some (Erred b)) = IsBlamed deps value k b
+-- where a key has erred at a client, it is blamed on a key in its cone that is faulty, or excused otherwise
+abbrev pub IfBlamed : {B : Type 0} → (ℕ → Type 0) → (ℕ → List ℕ) → (ℕ → Option B) → ℕ → Option End → Type 0
+IfBlamed excused deps value k None = Unit {0}
+IfBlamed excused deps value k (Some Got) = Unit {0}
+IfBlamed excused deps value k (Some (Erred b)) = IsBlamed excused deps value k b

@@ -50,6 +50,7 @@ impl<J: Drop, B: Drop, F: Drop> State<J, B, F> {
             Event::FailGather { asker, peer } => self.fail_gather(*asker, *peer),
             Event::Balance => self.balance(),
             Event::Evict => self.evict(),
+            Event::Replicate { key, worker } => self.replicate(*key, *worker),
             Event::Spill { worker, key } => {
                 self.spill(*worker, *key);
                 Ok(())
@@ -315,6 +316,17 @@ impl<J: Drop, B: Drop, F: Drop> State<J, B, F> {
         ensures kept { IsKept self.old self.new }
     {
         self.scheduler_turn(SchedEvent::Evict)
+    }
+
+    /// A worker is to have a copy of a key.
+    pub fn replicate(&mut self, key: u32, worker: u32) -> Result<(), AllocError>
+        requires joint { IsJoint self.old }
+        requires room { self.old.events < event_limit }
+        requires possible { enabled (world self.old) (event.Replicate key worker) ≡ true }
+        ensures moved { OnOk result (IsMoved self.old self.new (event.Replicate key worker)) }
+        ensures kept { IsKept self.old self.new }
+    {
+        self.scheduler_turn(SchedEvent::Replicate { key, w: worker })
     }
 
     /// A worker's key is spilled.

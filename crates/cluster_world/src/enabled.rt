@@ -49,6 +49,10 @@ impl<J: Drop, B: Drop, F: Drop> State<J, B, F> {
             Event::FailGather { asker, peer } => self.may_fail(*asker, *peer),
             Event::Balance => self.takes(&SchedEvent::Balance),
             Event::Evict => self.takes(&SchedEvent::Evict),
+            Event::Replicate { key, worker } => self.takes(&SchedEvent::Replicate {
+                key: *key,
+                w: *worker,
+            }),
             Event::Spill { worker, key } => self.may_spill(*worker, *key),
             Event::LoseSpilled { worker, key } => {
                 self.is_alive(*worker) & self.is_spilled(*worker, *key)

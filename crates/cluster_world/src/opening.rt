@@ -47,13 +47,14 @@ impl<J: Drop, B: Drop, F: Drop> State<J, B, F> {
         shape: GraphShape,
         clients: u32,
         saturation: u32,
+        allowed: Option<u32>,
     ) -> Result<State<J, B, F>, AllocError>
         requires clients { clients ≤ 16 }
         requires saturation { (1 ≤ saturation) × (saturation ≤ 1000) }
-        ensures { IfOk result (λ s. IsBegun job feed shape clients saturation s) }
+        ensures { IfOk result (λ s. IsBegun job feed shape clients saturation allowed s) }
     {
         let again = shape.copy()?;
-        let sched = Sched::new(alloc, shape, clients, saturation)?;
+        let sched = Sched::new(alloc, shape, clients, saturation, allowed)?;
         let Ok(nodes) = Nodes::new(alloc, again, clients) else {
             drop(sched);
             return Err(AllocError);

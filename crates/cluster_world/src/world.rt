@@ -7,13 +7,13 @@ ghost use Rattle.cluster_rules.specs.Client.{done};
 ghost use Rattle.cluster_rules.specs.World.{under_way, worker_count};
 ghost use Rattle.cluster_rules.specs.WorldStep.{world_step};
 ghost use Rattle.cluster_rules.specs.Enabled.{enabled, progress, message};
-ghost use Rattle.cluster_rules.specs.Runs.{legal, Safe, event_limit};
+ghost use Rattle.cluster_rules.specs.Runs.{legal, reached, Safe, WasKilled, event_limit};
 ghost use Rattle.cluster_msgs.specs.declared.events.Event.{Event as EventFact};
 ghost use Rattle.cluster_laws.specs.Blocks.{setting_of, opening_cluster};
 ghost use Rattle.cluster_laws.specs.Moves.{world_after, cluster_step};
 ghost use Rattle.cluster_world.specs.Worlds.{cluster, world, setting, running, IsReady, IsMade, IsMadeBy, IsTelling};
 ghost use Rattle.safety_laws.specs.Attempts.{AttemptsEnd};
-ghost use Rattle.cluster_world.specs.Safe.{IsSafeWorld};
+ghost use Rattle.cluster_world.specs.Safe.{IsSafeWorld, LosesFew};
 ghost use Rattle.cluster_world.specs.Steps.{CountsStep, IfBlamed};
 
 use crate::errors::StepError;
@@ -58,11 +58,12 @@ impl<J: JobSpec> World<J> {
         feed: J::Feed,
         clients: u32,
         saturation: u32,
+        allowed: Option<u32>,
     ) -> Result<World<J>, AllocError>
         requires clients { clients ≤ 16 }
         requires saturation { (1 ≤ saturation) × (saturation ≤ 1000) }
         requires feed { J.feed_fits job feed }
-        ensures opening { IfOk result (λ w. cluster w ≡ opening_cluster (setting_of (J.graph job) clients saturation) (J.operation job)) }
+        ensures opening { IfOk result (λ w. cluster w ≡ opening_cluster (setting_of (J.graph job) clients saturation allowed) (J.operation job)) }
         ensures ready { IfOk result (λ w. IsReady w) }
         ensures events { IfOk result (λ w. w.events ≡ 0) }
         ensures job { IfOk result (λ w. w.job ≡ job) }
@@ -72,7 +73,7 @@ impl<J: JobSpec> World<J> {
         let graph = job.shape();
         graph.sound();
         let shape = graph.copy()?;
-        let state = State::begin(alloc, job, feed, shape, clients, saturation)?;
+        let state = State::begin(alloc, job, feed, shape, clients, saturation, allowed)?;
         Ok(World { state })
     }
 
@@ -167,9 +168,11 @@ impl<J: JobSpec> World<J> {
     /// Schedule safety: it holds of every legal list of events of the world's job and setting. So a world that legal events
     /// made is safe, as each is whose feed tells what it holds: the scheduler has facts of known keys alone and only needed
     /// ones are held, a worker with no message under way agrees with it, and while a client waits and a worker is there,
-    /// some progress event is enabled. It does nothing.
+    /// some progress event is enabled. And no key has lost its worker more often than once more than is allowed. It does
+    /// nothing.
     pub fn is_safe(&self)
         ensures events { (es : List EventFact) → legal (running J.operation self.now) es → Safe (running J.operation self.now) es }
+        ensures losses { (es : List EventFact) → legal (running J.operation self.now) es → LosesFew (reached (running J.operation self.now) es).sched }
         ensures made { IsTelling J.feed_tells self.now → IsMade J.operation self.now }
         ensures world { IsMade J.operation self.now → IsSafeWorld (world self.now) }
     {
@@ -177,15 +180,13 @@ impl<J: JobSpec> World<J> {
         schedules_are_safe();
     }
 
-    /// How a key that a client waited for ended, none where it didn't. Where the feed tells what it holds, and in each world
-    /// that legal events made, a key that erred is blamed on a key in its cone whose own operation meets a zero divisor.
-    /// Takes no memory.
+    /// How a key that a client waited for ended, none where it didn't. In each world that legal events made, as each is whose
+    /// feed tells what it holds, a key that erred is blamed on a key in its cone whose own operation meets a zero divisor, or
+    /// that was killed in the course of those events: more of its workers left than it is allowed to lose. Takes no memory.
     pub fn done(&self, client: u32, key: u32) -> Option<End>
         ensures done { result ≡ done ((world self.now).clients client) key }
-        ensures blame { IsTelling J.feed_tells self.now →
-            IfBlamed (deps_of (J.graph self.now.job)) (val (deps_of (J.graph self.now.job)) (J.operation self.now.job)) key result }
-        ensures made { IsMade J.operation self.now →
-            IfBlamed (deps_of (J.graph self.now.job)) (val (deps_of (J.graph self.now.job)) (J.operation self.now.job)) key result }
+        ensures blame { (es : List EventFact) → IsMadeBy J.operation es self.now →
+            IfBlamed (WasKilled (running J.operation self.now) es) (deps_of (J.graph self.now.job)) (val (deps_of (J.graph self.now.job)) (J.operation self.now.job)) key result }
     {
         self.state.done(client, key)
     }
@@ -217,6 +218,21 @@ impl<J: JobSpec> World<J> {
         ensures { result ≡ worker_count (world self.now) }
     {
         self.state.worker_count()
+    }
+
+    /// How often the key's worker left while the key was assigned to it, since the key was last not known. A key that is
+    /// not there has lost none. Takes no memory.
+    pub fn losses(&self, key: u32) -> u32
+        ensures { result ≡ (world self.now).sched.losses key }
+    {
+        self.state.sched.losses(key)
+    }
+
+    /// How often a key's worker may leave while the key is assigned to it, where that is bounded. Takes no memory.
+    pub fn allowed(&self) -> Option<u32>
+        ensures { result ≡ (world self.now).sched.setting.allowed }
+    {
+        self.state.sched.allowed()
     }
 
     /// How many finishes the scheduler counted. Takes no memory.

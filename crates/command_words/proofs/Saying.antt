@@ -1,11 +1,12 @@
 -- What the words say, in one way.
-use Rattle.std.proofs.Common.{◌≡◌, ℕ, ◌≤◌, ◌-◌, ◌*◌, ◌^◌, Bool, true, false, List, [], length, take, codes, string_bytes, refl, sym, subst, ◌∙◌, arith, Option, Some, None}
+use Rattle.std.proofs.Common.{◌≡◌, ℕ, ◌≤◌, ◌-◌, ◌*◌, ◌^◌, Bool, true, false, List, [], length, take, codes, string_bytes, refl, sym, ap, subst, ◌∙◌, arith, Option, Some, None}
 use Rattle.std.proofs.lemmas.List.FromFn.{length-range_with_len}
 use Rattle.std.proofs.Math.Seq.{take-nil}
 use Rattle.small_facts.proofs.Options.{same_in_some}
 use Rattle.cluster_msgs.specs.declared.events.Item.{Item}
 use Rattle.cluster_rules.specs.Functions.{from_one}
-use Rattle.command_words.specs.Given.{HasFlag, HasNumber}
+use Rattle.command_words.specs.Given.{HasBound, HasFlag, HasNumber}
+use Rattle.command_words.specs.Numbers.{IsNumber}
 use Rattle.command_words.specs.Walks.{IsCrew, IsWalk, after_items, crew_of}
 use Rattle.command_words.specs.Words.{AreGenSettings, AreRunSettings, HasGenNumbers, HasNoWalk, HasScript, HasSeed, HasSettings, IsGen, IsNotGiven, IsPlain, IsRun, IsSettings, IsSim, SameRun, SameSim}
 use Rattle.command_words.specs.declared.settings.RunSettings.{RunSettings}
@@ -33,6 +34,20 @@ pub in_range : (given : Option (List ℕ)) (least most default n : ℕ) → leas
 in_range (Some text) least most default n above below has = (has.from, has.to)
 in_range None least most default n above below has = (omega (arith, has, above), omega (arith, has, below))
 
+one_bound : (given : Option (List ℕ)) (most : ℕ) (a b : Option ℕ) → HasBound given most a → HasBound given most b → a ≡ b
+one_bound (Some text) most (Some m) (Some n) p q = ap (λ (x : ℕ). Some x) (one_number 0 most text m n p q)
+one_bound (Some text) most (Some m) None p q = absurd q
+one_bound (Some text) most None b p q = absurd p
+one_bound None most a b p q = p ∙ sym q
+
+-- a word that says no such number
+pub no_bound : (given : Option (List ℕ)) (text : List ℕ) (most : ℕ) → given ≡ Some text → ((n : ℕ) → ¬ IsNumber 0 most text n) → (bound : Option ℕ) → ¬ HasBound given most bound
+no_bound given text most is bad bound = λ h. by bound (subst (λ o. HasBound o most bound) is h)
+  where
+    by : (bound : Option ℕ) → HasBound (Some text) most bound → ⊥
+    by None h = h
+    by (Some n) h = bad n h
+
 one_flag : (given : Option (List ℕ)) (a b : Bool) → HasFlag given a → HasFlag given b → a ≡ b
 one_flag given true true p q = refl
 one_flag given true false p q = absurd (q p)
@@ -50,7 +65,8 @@ same_settings given a b p q =
     let workers : a.workers ≡ b.workers = one_given (given (codes "workers")) 1 64 4 a.workers b.workers p.workers q.workers in
     let threads : a.threads ≡ b.threads = one_given (given (codes "threads")) 1 16 2 a.threads b.threads p.threads q.threads in
     let saturation : a.saturation ≡ b.saturation = one_given (given (codes "saturation")) 1 1000 11 a.saturation b.saturation p.saturation q.saturation in
-    λ i. record { workers = workers i; threads = threads i; saturation = saturation i }
+    let allowed : a.allowed ≡ b.allowed = one_bound (given (codes "allowed-failures")) 1000 a.allowed b.allowed p.allowed q.allowed in
+    λ i. record { workers = workers i; threads = threads i; saturation = saturation i; allowed = allowed i }
 
 same_sim_settings : (given : Given) (a b : Settings) → IsSettings given a → IsSettings given b → a ≡ b
 same_sim_settings given a b p q =
@@ -58,7 +74,8 @@ same_sim_settings given a b p q =
     let workers : a.workers ≡ b.workers = one_given (given (codes "workers")) 1 64 4 a.workers b.workers p.workers q.workers in
     let threads : a.threads ≡ b.threads = one_given (given (codes "threads")) 1 16 2 a.threads b.threads p.threads q.threads in
     let saturation : a.saturation ≡ b.saturation = one_given (given (codes "saturation")) 1 1000 11 a.saturation b.saturation p.saturation q.saturation in
-    λ i. record { number = number i; workers = workers i; threads = threads i; saturation = saturation i }
+    let allowed : a.allowed ≡ b.allowed = one_bound (given (codes "allowed-failures")) 1000 a.allowed b.allowed p.allowed q.allowed in
+    λ i. record { number = number i; workers = workers i; threads = threads i; saturation = saturation i; allowed = allowed i }
 
 -- ## Scripts
 
@@ -104,7 +121,8 @@ run_settings words s is = record {
 -- ## A simulation
 
 pub no_sim_numbers : (given : Given) → ((s : RunSettings) → ¬ HasSettings given s) → (s : Settings) → ¬ IsSettings given s
-no_sim_numbers given bad = λ s h. bad (record { workers = s.workers; threads = s.threads; saturation = s.saturation }) (record { workers = h.workers; threads = h.threads; saturation = h.saturation })
+no_sim_numbers given bad = λ s h. bad (record { workers = s.workers; threads = s.threads; saturation = s.saturation; allowed = s.allowed })
+    (record { workers = h.workers; threads = h.threads; saturation = h.saturation; allowed = h.allowed })
 
 -- one simulation at most
 pub one_sim : (words : List (List ℕ)) (a b : SimWords) → IsSim words a → IsSim words b → SameSim a b

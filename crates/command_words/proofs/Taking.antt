@@ -47,12 +47,13 @@ bare c d e name new help version =
     ap app_of_fields version
     ∙ ap (on_top (λ s. record s { disable_version_flag = true })) (ap app_of_fields help ∙ ap (on_top (λ s. record s { disable_help_flag = true })) new)
 
-four : (rs : List Rule) (a b c d : Rule) → (((rs ++ a ∷ []) ++ b ∷ []) ++ c ∷ []) ++ d ∷ [] ≡ rs ++ a ∷ b ∷ c ∷ d ∷ []
-four [] a b c d = refl
-four (r ∷ rs) a b c d = ap (λ l. r ∷ l) (four rs a b c d)
+five : (rs : List Rule) (a b c d e : Rule) → ((((rs ++ a ∷ []) ++ b ∷ []) ++ c ∷ []) ++ d ∷ []) ++ e ∷ [] ≡ rs ++ a ∷ b ∷ c ∷ d ∷ e ∷ []
+five [] a b c d e = refl
+five (r ∷ rs) a b c d e = ap (λ l. r ∷ l) (five rs a b c d e)
 
-pub options_added : (app : App) → with_rule (with_rule (with_rule (with_rule app (option (codes "workers"))) (option (codes "threads"))) (option (codes "saturation"))) (option (codes "script")) ≡ with_options app
-options_added app = ap (λ l. record app { top = record app.top { rules = l } }) (four app.top.rules (option (codes "workers")) (option (codes "threads")) (option (codes "saturation")) (option (codes "script")))
+pub options_added : (app : App) → with_rule (with_rule (with_rule (with_rule (with_rule app (option (codes "workers"))) (option (codes "threads"))) (option (codes "saturation"))) (option (codes "allowed-failures"))) (option (codes "script")) ≡ with_options app
+options_added app = ap (λ l. record app { top = record app.top { rules = l } })
+    (five app.top.rules (option (codes "workers")) (option (codes "threads")) (option (codes "saturation")) (option (codes "allowed-failures")) (option (codes "script")))
 
 -- ## Reading
 

@@ -25,7 +25,7 @@ command_of name rules = record {
 
 -- the options that runs and simulations have
 abbrev pub settings : List Rule
-settings = option (codes "workers") ∷ option (codes "threads") ∷ option (codes "saturation") ∷ option (codes "script") ∷ []
+settings = option (codes "workers") ∷ option (codes "threads") ∷ option (codes "saturation") ∷ option (codes "allowed-failures") ∷ option (codes "script") ∷ []
 
 abbrev pub with_options : App → App
 with_options app = record app { top = record app.top { rules = app.top.rules ++ settings } }

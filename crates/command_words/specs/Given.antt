@@ -25,6 +25,12 @@ abbrev pub HasNumber : Option (List ℕ) → ℕ → ℕ → ℕ → ℕ → Typ
 HasNumber (Some text) least most default n = IsNumber least most text n
 HasNumber None least most default n = n ≡ default
 
+-- the number up to this one that is given, or none without it
+abbrev pub HasBound : Option (List ℕ) → ℕ → Option ℕ → Type 0
+HasBound (Some text) most (Some n) = IsNumber 0 most text n
+HasBound (Some text) most None = ⊥
+HasBound None most bound = bound ≡ None
+
 -- why no text was read: none is given
 abbrev pub IsNoText : Option (List ℕ) → WordsFail → Type 0
 IsNoText given Refused = given ≡ None

@@ -2,7 +2,7 @@
 use Rattle.std.specs.Prelude.{◌≡◌, ◌<◌, ◌≤◌, ◌-◌, ◌*◌, ◌^◌, ℕ, List, [], Option, Some, None, codes, length, slice_index_or, string_bytes}
 use Rattle.cluster_msgs.specs.declared.events.Item.{Item}
 use Rattle.command_words.specs.Apps.{run_app, sim_app, plain_app, gen_app}
-use Rattle.command_words.specs.Given.{IsTaken, HasFlag, HasNumber, text_of}
+use Rattle.command_words.specs.Given.{IsTaken, HasBound, HasFlag, HasNumber, text_of}
 use Rattle.command_words.specs.Numbers.{IsNumber}
 use Rattle.command_words.specs.Scripts.{IsScript}
 use Rattle.command_words.specs.Walks.{IsWalk}
@@ -17,11 +17,13 @@ use Rattle.command_words.specs.declared.fail.WordsFail.TheVariants.{Refused, Out
 
 -- ## What the commands have in common
 
--- `--workers` of 1 to 64 (else 4), `--threads` of 1 to 16 (else 2), `--saturation` of 1 to 1000 (else 11), in the texts that are given to these names
+-- `--workers` of 1 to 64 (else 4), `--threads` of 1 to 16 (else 2), `--saturation` of 1 to 1000 (else 11), `--allowed-failures` of 0 to 1000 (else they
+-- aren't bounded), in the texts that are given to these names
 pub record HasSettings (given : List ℕ → Option (List ℕ)) (s : RunSettings) : Type 0 where
   pub workers : HasNumber (given (codes "workers")) 1 64 4 s.workers
   pub threads : HasNumber (given (codes "threads")) 1 16 2 s.threads
   pub saturation : HasNumber (given (codes "saturation")) 1 1000 11 s.saturation
+  pub allowed : HasBound (given (codes "allowed-failures")) 1000 s.allowed
 
 -- the script that is given, or the empty one
 abbrev pub HasScript : Option (List ℕ) → List Item → Type 0
@@ -90,12 +92,13 @@ abbrev pub HasSeed : Option (List ℕ) → ℕ → Type 0
 HasSeed (Some text) n = IsNumber 0 (2 ^ 64 - 1) text n
 HasSeed None n = ⊥
 
--- NUMBER, `--workers`, `--threads` and `--saturation`
+-- NUMBER, `--workers`, `--threads`, `--saturation` and `--allowed-failures`
 pub record IsSettings (given : List ℕ → Option (List ℕ)) (s : Settings) : Type 0 where
   pub number : HasSeed (given (codes "number")) s.number
   pub workers : HasNumber (given (codes "workers")) 1 64 4 s.workers
   pub threads : HasNumber (given (codes "threads")) 1 16 2 s.threads
   pub saturation : HasNumber (given (codes "saturation")) 1 1000 11 s.saturation
+  pub allowed : HasBound (given (codes "allowed-failures")) 1000 s.allowed
 
 -- the texts that are given to the names say this simulation, with a script that can be followed
 pub record SaysSim (given : List ℕ → Option (List ℕ)) (s : SimWords) : Type 0 where

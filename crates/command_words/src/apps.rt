@@ -59,7 +59,8 @@ fn with_settings<'a>(alloc: Global, command: Command<'a>) -> Result<Command<'a>,
     let one = with_arg(command, option_arg(alloc, "workers"))?;
     let two = with_arg(one, option_arg(alloc, "threads"))?;
     let three = with_arg(two, option_arg(alloc, "saturation"))?;
-    with_arg(three, option_arg(alloc, "script"))
+    let four = with_arg(three, option_arg(alloc, "allowed-failures"))?;
+    with_arg(four, option_arg(alloc, "script"))
 }
 
 fn run_command<'a>(alloc: Global) -> Result<Command<'a>, AllocError>

@@ -1,6 +1,7 @@
 //! The texts that words give to names.
-ghost use Rattle.std.specs.Prelude.{◌≡◌, ◌<◌, ◌^◌, ◌-◌, ℕ, [], Some, IfOk, IfErr, bytes_eq, false, map, option_map, slice_index_or, string_bytes, MatchOption};
-ghost use Rattle.command_words.specs.Given.{HasFlag, HasNumber, IsNoText, text_in};
+ghost use Rattle.std.specs.Prelude.{◌≡◌, ◌<◌, ◌^◌, ◌-◌, ℕ, [], Option, Some, IfOk, IfErr, bytes_eq, false, map, option_map, slice_index_or, string_bytes, MatchOption};
+ghost use Rattle.command_words.specs.Given.{HasBound, HasFlag, HasNumber, IsNoText, text_in};
+ghost use Rattle.command_words.specs.Numbers.{IsNumber};
 
 use crate::fail::WordsFail;
 use crate::numbers::number_in;
@@ -63,5 +64,27 @@ pub fn number_of(
     match given_to(matches, name) {
         Some(text) => number_in(text, least, most),
         None => Some(default),
+    }
+}
+
+// The number that a word says, up to this one.
+fn number_up_to(word: &str, most: u32) -> Option<u32>
+    ensures { MatchOption result ((n : ℕ) → ¬ IsNumber 0 most word.now n) (IsNumber 0 most word.now) }
+{
+    let number = number_in(word, 0, u128::from(most))?;
+    u32::try_from(number).ok()
+}
+
+/// The number up to this one that is given to a name, or that there is none without it.
+#[tactic(auto, using(crate::proofs::Saying::no_bound))]
+pub fn bound_of(matches: &ArgMatches<'_>, name: &str, most: u32) -> Option<Option<u32>>
+    ensures { let Has = HasBound (text_in matches.now name.now) most in MatchOption result ((bound : Option ℕ) → ¬ Has bound) Has }
+{
+    match given_to(matches, name) {
+        Some(text) => match number_up_to(text, most) {
+            Some(number) => Some(Some(number)),
+            None => None,
+        },
+        None => Some(None),
     }
 }

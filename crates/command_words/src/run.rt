@@ -86,7 +86,8 @@ fn run_of(alloc: Global, matches: &ArgMatches<'_>) -> Result<RunWords, WordsFail
 /// What the words `run JOB` with their options say.
 ///
 /// The options are `--workers N` (1 to 64, else 4), `--threads N` (1 to 16, else 2), `--saturation N` (1 to 1000, else 11),
-/// `--memory BYTES` (1 to 2^40, else 2^28), `--transport inproc`, `--script S` and the flag `--report`, each at most once, in any order. A script is as that of a
+/// `--allowed-failures N` (0 to 1000, else losses aren't bounded), `--memory BYTES` (1 to 2^40, else 2^28),
+/// `--transport inproc`, `--script S` and the flag `--report`, each at most once, in any order. A script is as that of a
 /// simulation (`read_sim`). Workers times threads are at most 64. The words behind `run` are read with `clap`, so
 /// `--workers=N` is accepted, and behind `--` a job may begin with a hyphen.
 ///

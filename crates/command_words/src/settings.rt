@@ -5,20 +5,25 @@ ghost use Rattle.command_words.specs.Words.{HasNoWalk, HasScript, HasSettings, H
 ghost use Rattle.command_words.specs.declared.settings.RunSettings.{RunSettings as AnySettings};
 
 use crate::fail::WordsFail;
-use crate::given::{given_to, number_of};
+use crate::given::{bound_of, given_to, number_of};
 use crate::script::read_script;
 use crate::walk::is_walk;
 use clap::ArgMatches;
 use cluster_msgs::Script;
 use std::alloc::Global;
 
-/// The numbers of a run: how many workers there are at first, with how many threads each, and the saturation in tenths.
+/// The numbers of a run: how many workers there are at first, with how many threads each, the saturation in tenths, and how often a key's worker may
+/// leave while the key is assigned to it, where that is bounded.
 #[derive(Clone, Copy)]
 pub struct RunSettings {
     pub workers: u32,
     pub threads: u32,
     pub saturation: u32,
+    pub allowed: Option<u32>,
 }
+
+/// No words allow a key more losses.
+const MOST_LOSSES: u32 = 1000;
 
 // A number from 1 that is given to a name, or the one that is taken without it.
 pub(crate) fn setting_of(
@@ -41,6 +46,7 @@ pub fn settings_of(matches: &ArgMatches<'_>) -> Option<RunSettings>
         workers: setting_of(matches, "workers", 64, 4)?,
         threads: setting_of(matches, "threads", 16, 2)?,
         saturation: setting_of(matches, "saturation", 1000, 11)?,
+        allowed: bound_of(matches, "allowed-failures", MOST_LOSSES)?,
     })
 }
 

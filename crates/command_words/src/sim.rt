@@ -14,14 +14,15 @@ use clap::ArgMatches;
 use cluster_msgs::Script;
 use std::alloc::Global;
 
-/// The numbers of a simulation: the generator's, how many workers there are at first, with how many threads each, and the
-/// saturation in tenths.
+/// The numbers of a simulation: the generator's, how many workers there are at first, with how many threads each, the saturation
+/// in tenths, and how often a key's worker may leave while the key is assigned to it, where that is bounded.
 #[derive(Clone, Copy)]
 pub struct Settings {
     pub number: u64,
     pub workers: u32,
     pub threads: u32,
     pub saturation: u32,
+    pub allowed: Option<u32>,
 }
 
 /// What the words of a simulation say.
@@ -61,6 +62,7 @@ fn settings_of_sim(matches: &ArgMatches<'_>) -> Option<Settings>
         workers: run.workers,
         threads: run.threads,
         saturation: run.saturation,
+        allowed: run.allowed,
     })
 }
 
@@ -96,11 +98,11 @@ fn sim_of(alloc: Global, matches: &ArgMatches<'_>) -> Result<SimWords, WordsFail
 
 /// What the words `sim JOB NUMBER` with their options say.
 ///
-/// The options are `--workers N` (1 to 64, else 4), `--threads N` (1 to 16, else 2), `--saturation N` (1 to 1000, else 11)
-/// and `--script S`, each at most once, in any order. A script is up to 1,000 items `lose:W@N`, `suspect:W@N` or `join@N` with
-/// commas between, with N not falling, that takes away only workers that are there, lets at most 64 join, and leaves always
-/// at least one worker, at most 64, and at most 64 threads. The words behind `sim` are read with `clap`, so `--workers=N` is
-/// accepted, and behind `--` a job may begin with a hyphen.
+/// The options are `--workers N` (1 to 64, else 4), `--threads N` (1 to 16, else 2), `--saturation N` (1 to 1000, else 11),
+/// `--allowed-failures N` (0 to 1000, else losses aren't bounded) and `--script S`, each at most once, in any order. A script
+/// is up to 1,000 items `lose:W@N`, `suspect:W@N` or `join@N` with commas between, with N not falling, that takes away only
+/// workers that are there, lets at most 64 join, and leaves always at least one worker, at most 64, and at most 64 threads.
+/// The words behind `sim` are read with `clap`, so `--workers=N` is accepted, and behind `--` a job may begin with a hyphen.
 ///
 /// # Errors
 /// `Refused` exactly where the words say nothing of this form, and `OutOfMemory` where no memory is left.

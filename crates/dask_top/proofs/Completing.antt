@@ -1,5 +1,5 @@
 -- A job ends as its text, its inputs and its values say where nothing failed.
-use Rattle.std.proofs.Common.{◌≡◌, ℕ, List, [], ◌∷◌, get_or, string_bytes, refl, ap, sym, ◌∙◌, subst, inl, inr, arith, Option, Some, None, Ok, Err}
+use Rattle.std.proofs.Common.{◌≡◌, ◌+◌, ◌≤◌, ℕ, List, [], ◌∷◌, get_or, string_bytes, refl, ap, sym, ◌∙◌, subst, inl, inr, arith, Option, Some, None, Ok, Err}
 use Rattle.std.specs.Prelude.{◌⊎◌, IfSome, IsSomeAnd}
 use Rattle.io_edge.specs.View.{View, Files}
 use Rattle.nd_shape.specs.Block.{Array}
@@ -37,14 +37,18 @@ use Rattle.sim_run.specs.Jobs.{IsTextJob}
 use Rattle.sim_run.specs.declared.ends.SimEnded.{SimEnded}
 use Rattle.sim_run.specs.declared.ends.SimEnded.TheVariants as SimEnds
 use Rattle.sim_run.specs.Ends.{Cause as SimCause, WhereTold}
+use Rattle.cluster_sim.specs.Faults.{IsKill}
+use Rattle.thread_run.specs.Losses.{IsKill as ThreadKill, losses_by}
 use Rattle.thread_run.specs.Ends.{Cause as ThreadCause, HasFault as ThreadFault, HasValues as ThreadValues, IsOutgrownRun}
+use Rattle.thread_run.specs.Reports.{IsOutgrown, label}
 use Rattle.thread_run.specs.declared.ends.ThreadEnded.{ThreadEnded}
 use Rattle.thread_run.specs.declared.ends.ThreadEnded.TheVariants as ThreadEnds
 use Rattle.command_words.proofs.Saying.{one_gen, one_plain, one_run, one_sim}
-use Rattle.dask_top.specs.declared.answer.End.TheVariants.{Words, Job, Limit, Graph, Events, Done, File, Zero, ReadFault, WriteFault, OutOfMemory}
+use Rattle.dask_top.specs.declared.answer.End.TheVariants.{Words, Job, Limit, Graph, Events, Done, File, Zero, Killed, ReadFault, WriteFault, OutOfMemory}
 use Rattle.dask_top.specs.Answers.{Answers, AskedDoes, CommandDoes, Performs}
 use Rattle.dask_top.specs.Commands.{Command, Run, Plain, Sim, Gen, Asks, Asked, IsAsked, Known, Unread, Work, Running, Evaluation, Simulation, sources_of}
-use Rattle.dask_top.specs.Completing.{CommandEnds, Completes, EndsByInputs, EndsByNumber, EndsByRun, EndsBySimulation, EndsByTexts, EndsByWork, MeetNoZero, MeetZero, NeverEnds, NoFault}
+use Rattle.cluster_msgs.specs.Scripts.{removes_in}
+use Rattle.dask_top.specs.Completing.{Allows, AllowsAll, AllowsRun, CommandEnds, Completes, EndsByInputs, EndsByNumber, EndsByRun, EndsBySimulation, EndsByTexts, EndsByWork, MeetNoZero, MeetZero, NeverEnds, NoFault}
 use Rattle.dask_top.specs.Ends.{run_end, sim_end, status_of, thread_end}
 use Rattle.dask_top.specs.Generating.{GenCause}
 use Rattle.dask_top.specs.Reading.{IsRead, Reading, Reads, plan_said}
@@ -128,19 +132,24 @@ sim_memory : (p : Plan) (said : SimWords) (old : View) → EndsBySimulation p sa
 sim_memory p said old = record {
   large = λ l. inr refl;
   unfit = λ s u. inr refl;
-  some = λ s f m ends. inr refl;
-  none = λ s f m ends. inr refl;
-  some_limit = λ s f m. inr (inr refl);
-  none_limit = λ s f m. inr (inr refl);
+  some = λ s f m ends all. inr refl;
+  none = λ s f m ends all. inr refl;
+  some_limit = λ s f m all. inr (inr refl);
+  none_limit = λ s f m all. inr (inr refl);
+  some_killed = λ s f m. inr (inr (inr refl));
+  none_killed = λ s f m. inr (inr (inr refl));
 }
 
 threads_memory : (p : Plan) (said : RunWords) (old : View) → EndsByRun p said old 8
 threads_memory p said old = record {
   large = λ l. inr refl;
   unfit = λ s u. inr refl;
-  some = λ t s f m. inr (inr refl);
-  none = λ t s f m. inr (inr refl);
-  either = λ s f. inr (inr (inr refl));
+  some = λ t s f m all. inr (inr refl);
+  none = λ t s f m all. inr (inr refl);
+  either = λ s f all. inr (inr (inr refl));
+  some_killed = λ t s f m. inr (inr (inr refl));
+  none_killed = λ t s f m. inr (inr (inr refl));
+  either_killed = λ s f. inr (inr (inr (inr refl)));
   events = λ s e. absurd (omega (arith, e));
 }
 
@@ -178,6 +187,7 @@ run_completes p old new (RunEnds.Zero node block) faults cause = record {
   some = λ s f m. inl refl;
   none = λ s f m. absurd (not_faulty p old.files node block m (first_faulty p old.files node block cause.1));
 }
+run_completes p old new (RunEnds.Killed key losses) faults cause = absurd cause
 run_completes p old new RunEnds.ReadFault faults cause = absurd (faults.read cause.1)
 run_completes p old new RunEnds.WriteFault faults cause = absurd (elim cause.2 [ inl w ↦ faults.write w | inr q ↦ faults.print q.1 ])
 run_completes p old new RunEnds.OutOfMemory faults cause = run_memory p old
@@ -189,10 +199,12 @@ run_ends : (p : Plan) (said : SimWords) (old : View) (status : ℕ) → EndsByIn
 run_ends p said old status ends = record {
   large = ends.large;
   unfit = ends.unfit;
-  some = λ s f m going. ends.some s f m;
-  none = λ s f m going. ends.none s f m;
-  some_limit = λ s f m. elim (ends.some s f m) [ inl zero ↦ inl zero | inr memory ↦ inr (inr memory) ];
-  none_limit = λ s f m. elim (ends.none s f m) [ inl well ↦ inl well | inr memory ↦ inr (inr memory) ];
+  some = λ s f m going all. ends.some s f m;
+  none = λ s f m going all. ends.none s f m;
+  some_limit = λ s f m all. elim (ends.some s f m) [ inl zero ↦ inl zero | inr memory ↦ inr (inr memory) ];
+  none_limit = λ s f m all. elim (ends.none s f m) [ inl well ↦ inl well | inr memory ↦ inr (inr memory) ];
+  some_killed = λ s f m. elim (ends.some s f m) [ inl zero ↦ inl zero | inr memory ↦ inr (inr (inr memory)) ];
+  none_killed = λ s f m. elim (ends.none s f m) [ inl well ↦ inl well | inr memory ↦ inr (inr (inr memory)) ];
 }
 
 -- the limit of events was passed
@@ -200,10 +212,12 @@ limit_ends : (p : Plan) (said : SimWords) (old : View) → InputsFit p old.files
 limit_ends p said old fit never = record {
   large = λ l. inl refl;
   unfit = λ s u. absurd (not_fit p old.files u fit);
-  some = λ s f m ends. absurd (ends (told_and (told_all old.files.held p.inputs) (FitInputs p) (λ contents. NeverEnds p said old) f never).2);
-  none = λ s f m ends. absurd (ends (told_and (told_all old.files.held p.inputs) (FitInputs p) (λ contents. NeverEnds p said old) f never).2);
-  some_limit = λ s f m. inr (inl refl);
-  none_limit = λ s f m. inr (inl refl);
+  some = λ s f m ends all. absurd (ends (told_and (told_all old.files.held p.inputs) (FitInputs p) (λ contents. NeverEnds p said old) f never).2);
+  none = λ s f m ends all. absurd (ends (told_and (told_all old.files.held p.inputs) (FitInputs p) (λ contents. NeverEnds p said old) f never).2);
+  some_limit = λ s f m all. inr (inl refl);
+  none_limit = λ s f m all. inr (inl refl);
+  some_killed = λ s f m. inr (inr (inl refl));
+  none_killed = λ s f m. inr (inr (inl refl));
 }
 
 -- some needed block met a zero divisor, not always the first
@@ -215,63 +229,118 @@ fault_ends p old node block small has = record {
   none = λ s f m. absurd (not_faulty p old.files node block m has);
 }
 
+-- so many losses as kill a key are more than the script takes away
+too_few : (allowed : Option ℕ) (script : List Item) (losses a : ℕ) → AllowsAll allowed script → allowed ≡ Some a → losses ≡ a + 1 → losses ≤ removes_in script → ⊥
+too_few allowed script losses a all is above often = let few : removes_in script ≤ a = subst (λ o. AllowsAll o script) is all in omega (arith, few, above, often)
+
+-- a key was killed in a simulation
+sim_killed : (p : Plan) (said : SimWords) (old : View) (losses : ℕ) → IsSmall p → InputsFit p old.files → IsKill said.settings.allowed said.script losses → EndsBySimulation p said old 11
+sim_killed p said old losses small fit kill =
+    let not_all : Allows said → ⊥ = λ all. too_few said.settings.allowed said.script losses kill.above.0 all kill.above.1 kill.above.2 kill.often in
+    record {
+      large = λ l. absurd (l small);
+      unfit = λ s u. absurd (not_fit p old.files u fit);
+      some = λ s f m ends all. absurd (not_all all);
+      none = λ s f m ends all. absurd (not_all all);
+      some_limit = λ s f m all. absurd (not_all all);
+      none_limit = λ s f m all. absurd (not_all all);
+      some_killed = λ s f m. inr (inl refl);
+      none_killed = λ s f m. inr (inl refl);
+    }
+
 -- a run of a job whose inputs are as declared, which met a zero divisor or gave all blocks: of zero divisors it tells where the site tells
-threads_zero : (p : Plan) (said : RunWords) (old : View) (node : ℕ) (block : List ℕ) → IsSmall p → ThreadFault p old.files node block → EndsByRun p said old 4
-threads_zero p said old node block small has = record {
-  large = λ l. absurd (l small);
-  unfit = λ s u. absurd (not_fit p old.files u has.inputs);
-  some = λ t s f m. inl refl;
-  none = λ t s f m. absurd (not_faulty p old.files node block m (record { inputs = has.inputs; zero_at = has.zero_at t }));
-  either = λ s f. inr (inl refl);
-  events = λ s e. absurd (omega (arith, e));
-}
+module _ (p : Plan) (said : RunWords) (old : View) where
+  threads_zero : (node : ℕ) (block : List ℕ) → IsSmall p → ThreadFault p old.files node block → EndsByRun p said old 4
+  threads_zero node block small has = record {
+    large = λ l. absurd (l small);
+    unfit = λ s u. absurd (not_fit p old.files u has.inputs);
+    some = λ t s f m all. inl refl;
+    none = λ t s f m all. absurd (not_faulty p old.files node block m (record { inputs = has.inputs; zero_at = has.zero_at t }));
+    either = λ s f all. inr (inl refl);
+    some_killed = λ t s f m. inl refl;
+    none_killed = λ t s f m. absurd (not_faulty p old.files node block m (record { inputs = has.inputs; zero_at = has.zero_at t }));
+    either_killed = λ s f. inr (inl refl);
+    events = λ s e. absurd (omega (arith, e));
+  }
 
-threads_done : (p : Plan) (said : RunWords) (old : View) → IsSmall p → ThreadValues p old.files → EndsByRun p said old 0
-threads_done p said old small has = record {
-  large = λ l. absurd (l small);
-  unfit = λ s u. absurd (not_fit p old.files u has.inputs);
-  some = λ t s f m. absurd (not_all p old.files m (record { inputs = has.inputs; values = has.values t }));
-  none = λ t s f m. inl refl;
-  either = λ s f. inl refl;
-  events = λ s e. absurd (omega (arith, e));
-}
+  threads_done : IsSmall p → ThreadValues p old.files → EndsByRun p said old 0
+  threads_done small has = record {
+    large = λ l. absurd (l small);
+    unfit = λ s u. absurd (not_fit p old.files u has.inputs);
+    some = λ t s f m all. absurd (not_all p old.files m (record { inputs = has.inputs; values = has.values t }));
+    none = λ t s f m all. inl refl;
+    either = λ s f all. inl refl;
+    some_killed = λ t s f m. absurd (not_all p old.files m (record { inputs = has.inputs; values = has.values t }));
+    none_killed = λ t s f m. inl refl;
+    either_killed = λ s f. inl refl;
+    events = λ s e. absurd (omega (arith, e));
+  }
 
-threads_limit : (p : Plan) (said : RunWords) (old : View) (quantity : Quantity) → limit_of p.nodes ≡ Some quantity → EndsByRun p said old 9
-threads_limit p said old quantity passes = record {
-  large = λ l. inl refl;
-  unfit = λ s u. absurd (no_limit p quantity passes s);
-  some = λ t s f m. absurd (no_limit p quantity passes s);
-  none = λ t s f m. absurd (no_limit p quantity passes s);
-  either = λ s f. absurd (no_limit p quantity passes s);
-  events = λ s e. absurd (no_limit p quantity passes s);
-}
+  threads_limit : (quantity : Quantity) → limit_of p.nodes ≡ Some quantity → EndsByRun p said old 9
+  threads_limit quantity passes = record {
+    large = λ l. inl refl;
+    unfit = λ s u. absurd (no_limit p quantity passes s);
+    some = λ t s f m all. absurd (no_limit p quantity passes s);
+    none = λ t s f m all. absurd (no_limit p quantity passes s);
+    either = λ s f all. absurd (no_limit p quantity passes s);
+    some_killed = λ t s f m. absurd (no_limit p quantity passes s);
+    none_killed = λ t s f m. absurd (no_limit p quantity passes s);
+    either_killed = λ s f. absurd (no_limit p quantity passes s);
+    events = λ s e. absurd (no_limit p quantity passes s);
+  }
 
-threads_file : (p : Plan) (said : RunWords) (old : View) (place : ℕ) (error : FileError) → IsSmall p → InputRefused p old.files place error → EndsByRun p said old 3
-threads_file p said old place error small refused = record {
-  large = λ l. absurd (l small);
-  unfit = λ s u. inl refl;
-  some = λ t s f m. absurd (not_refused_input p old.files place error f refused);
-  none = λ t s f m. absurd (not_refused_input p old.files place error f refused);
-  either = λ s f. absurd (not_refused_input p old.files place error f refused);
-  events = λ s e. absurd (omega (arith, e));
-}
+  threads_file : (place : ℕ) (error : FileError) → IsSmall p → InputRefused p old.files place error → EndsByRun p said old 3
+  threads_file place error small refused = record {
+    large = λ l. absurd (l small);
+    unfit = λ s u. inl refl;
+    some = λ t s f m all. absurd (not_refused_input p old.files place error f refused);
+    none = λ t s f m all. absurd (not_refused_input p old.files place error f refused);
+    either = λ s f all. absurd (not_refused_input p old.files place error f refused);
+    some_killed = λ t s f m. absurd (not_refused_input p old.files place error f refused);
+    none_killed = λ t s f m. absurd (not_refused_input p old.files place error f refused);
+    either_killed = λ s f. absurd (not_refused_input p old.files place error f refused);
+    events = λ s e. absurd (omega (arith, e));
+  }
 
--- a node's core had taken all events: whether the inputs are as declared is known
-threads_events : (p : Plan) (said : RunWords) (old : View) → IsOutgrownRun p said old.files → EndsByRun p said old 9
-threads_events p said old has = record {
-  large = λ l. inl refl;
-  unfit = λ s u. absurd (not_fit p old.files u has.inputs);
-  some = λ t s f m. inr (inl refl);
-  none = λ t s f m. inr (inl refl);
-  either = λ s f. inr (inr (inl refl));
-  events = λ s e. has;
-}
+  -- a key was killed, and all reads went well
+  threads_killed : (losses : ℕ) (reads : Type 0) → (reads → ⊥) → IsSmall p → InputsFit p old.files → ThreadKill (losses_by said) reads losses → EndsByRun p said old 11
+  threads_killed losses reads read small fit kill =
+      let never : AllowsRun said → ⊥ = λ all. elim kill.often [
+        | inl often ↦ too_few said.settings.allowed said.script losses kill.above.0 all kill.above.1 kill.above.2 often
+        | inr rose ↦ read rose
+      ] in
+      record {
+        large = λ l. absurd (l small);
+        unfit = λ s u. absurd (not_fit p old.files u fit);
+        some = λ t s f m all. absurd (never all);
+        none = λ t s f m all. absurd (never all);
+        either = λ s f all. absurd (never all);
+        some_killed = λ t s f m. inr (inl refl);
+        none_killed = λ t s f m. inr (inl refl);
+        either_killed = λ s f. inr (inr (inl refl));
+        events = λ s e. absurd (omega (arith, e));
+      }
 
-threads_ran : (p : Plan) (said : RunWords) (old new : View) (end : Ended) → NoFault old new → ThreadCause p old new end → EndsByRun p said old (status_of (end_of end))
+  -- a node's core had taken all events: whether the inputs are as declared is known
+  threads_events : IsOutgrownRun p said old.files → EndsByRun p said old 9
+  threads_events has = record {
+    large = λ l. inl refl;
+    unfit = λ s u. absurd (not_fit p old.files u has.inputs);
+    some = λ t s f m all. inr (inl refl);
+    none = λ t s f m all. inr (inl refl);
+    either = λ s f all. inr (inr (inl refl));
+    some_killed = λ t s f m. inr (inr (inl refl));
+    none_killed = λ t s f m. inr (inr (inl refl));
+    either_killed = λ s f. inr (inr (inr (inl refl)));
+    events = λ s e. has;
+  }
+
+threads_ran : (p : Plan) (said : RunWords) (old new : View) (end : Ended) → NoFault old new → ThreadCause p said old new end → EndsByRun p said old (status_of (end_of end))
 threads_ran p said old new RunEnds.Done faults cause = threads_done p said old cause.0 cause.1
 threads_ran p said old new (RunEnds.Limit quantity) faults cause = threads_limit p said old quantity cause
 threads_ran p said old new (RunEnds.File place error) faults cause = threads_file p said old place error cause.0 cause.1
 threads_ran p said old new (RunEnds.Zero node block) faults cause = threads_zero p said old node block cause.0 cause.1
+threads_ran p said old new (RunEnds.Killed key losses) faults cause = threads_killed p said old losses _ faults.read cause.0 cause.1.inputs cause.1.kill
 threads_ran p said old new RunEnds.ReadFault faults cause = absurd (faults.read cause.1)
 threads_ran p said old new RunEnds.WriteFault faults cause = absurd (elim cause.2 [ inl w ↦ faults.write w | inr q ↦ faults.print q.1 ])
 threads_ran p said old new RunEnds.OutOfMemory faults cause = threads_memory p said old
@@ -281,18 +350,19 @@ threads_complete : (sources : List (List ℕ)) (p : Plan) (said : RunWords) (old
 threads_complete sources p said old new ThreadEnds.Events faults does = threads_events p said old (does.events refl)
 threads_complete sources p said old new (ThreadEnds.Ran end) faults does = threads_ran p said old new end faults does.runs.cause
 
-sim_run_completes : (p : Plan) (said : SimWords) (old new : View) (end : Ended) → NoFault old new → SimCause p said old new (SimEnds.Ran end) → EndsByInputs p old (status_of (end_of end))
-sim_run_completes p said old new RunEnds.Done faults cause = done_ends p old cause.0 cause.1
-sim_run_completes p said old new (RunEnds.Limit quantity) faults cause = run_completes p old new (RunEnds.Limit quantity) faults cause
-sim_run_completes p said old new (RunEnds.File place error) faults cause = run_completes p old new (RunEnds.File place error) faults cause
-sim_run_completes p said old new (RunEnds.Zero node block) faults cause = fault_ends p old node block cause.0 cause.1
+sim_run_completes : (p : Plan) (said : SimWords) (old new : View) (end : Ended) → NoFault old new → SimCause p said old new (SimEnds.Ran end) → EndsBySimulation p said old (status_of (end_of end))
+sim_run_completes p said old new RunEnds.Done faults cause = run_ends p said old 0 (done_ends p old cause.0 cause.1)
+sim_run_completes p said old new (RunEnds.Limit quantity) faults cause = run_ends p said old 9 (run_completes p old new (RunEnds.Limit quantity) faults cause)
+sim_run_completes p said old new (RunEnds.File place error) faults cause = run_ends p said old 3 (run_completes p old new (RunEnds.File place error) faults cause)
+sim_run_completes p said old new (RunEnds.Zero node block) faults cause = run_ends p said old 4 (fault_ends p old node block cause.0 cause.1)
+sim_run_completes p said old new (RunEnds.Killed key losses) faults cause = sim_killed p said old losses cause.0 cause.1 cause.2
 sim_run_completes p said old new RunEnds.ReadFault faults cause = absurd (faults.read cause.1)
 sim_run_completes p said old new RunEnds.WriteFault faults cause = absurd (elim cause.2 [ inl w ↦ faults.write w | inr q ↦ faults.print q ])
-sim_run_completes p said old new RunEnds.OutOfMemory faults cause = run_memory p old
+sim_run_completes p said old new RunEnds.OutOfMemory faults cause = run_ends p said old 8 (run_memory p old)
 
 sim_completes : (p : Plan) (said : SimWords) (old new : View) (end : SimEnded) → NoFault old new → SimCause p said old new end → EndsBySimulation p said old (status_of (sim_end_of end))
 sim_completes p said old new SimEnds.Events faults cause = limit_ends p said old cause.1 cause.2
-sim_completes p said old new (SimEnds.Ran end) faults cause = run_ends p said old (status_of (end_of end)) (sim_run_completes p said old new end faults cause)
+sim_completes p said old new (SimEnds.Ran end) faults cause = sim_run_completes p said old new end faults cause
 
 -- ## The end of the work on a job
 
@@ -301,6 +371,7 @@ of_run : (P : Ended → Type 0) (Q : ℕ → Type 0) → ((e : Ended) → P e �
 of_run P Q f Done holds = f RunEnds.Done holds
 of_run P Q f (File place error) holds = f (RunEnds.File place error) holds
 of_run P Q f (Zero node block) holds = f (RunEnds.Zero node block) holds
+of_run P Q f (Killed key losses) holds = f (RunEnds.Killed key losses) holds
 of_run P Q f ReadFault holds = f RunEnds.ReadFault holds
 of_run P Q f WriteFault holds = f RunEnds.WriteFault holds
 of_run P Q f OutOfMemory holds = f RunEnds.OutOfMemory holds
@@ -314,6 +385,7 @@ of_sim : (P : SimEnded → Type 0) (Q : ℕ → Type 0) → ((e : SimEnded) → 
 of_sim P Q f Done holds = f (SimEnds.Ran RunEnds.Done) holds
 of_sim P Q f (File place error) holds = f (SimEnds.Ran (RunEnds.File place error)) holds
 of_sim P Q f (Zero node block) holds = f (SimEnds.Ran (RunEnds.Zero node block)) holds
+of_sim P Q f (Killed key losses) holds = f (SimEnds.Ran (RunEnds.Killed key losses)) holds
 of_sim P Q f ReadFault holds = f (SimEnds.Ran RunEnds.ReadFault) holds
 of_sim P Q f WriteFault holds = f (SimEnds.Ran RunEnds.WriteFault) holds
 of_sim P Q f OutOfMemory holds = f (SimEnds.Ran RunEnds.OutOfMemory) holds
@@ -327,6 +399,7 @@ of_thread : (P : ThreadEnded → Type 0) (Q : ℕ → Type 0) → ((e : ThreadEn
 of_thread P Q f Done holds = f (ThreadEnds.Ran RunEnds.Done) holds
 of_thread P Q f (File place error) holds = f (ThreadEnds.Ran (RunEnds.File place error)) holds
 of_thread P Q f (Zero node block) holds = f (ThreadEnds.Ran (RunEnds.Zero node block)) holds
+of_thread P Q f (Killed key losses) holds = f (ThreadEnds.Ran (RunEnds.Killed key losses)) holds
 of_thread P Q f ReadFault holds = f (ThreadEnds.Ran RunEnds.ReadFault) holds
 of_thread P Q f WriteFault holds = f (ThreadEnds.Ran RunEnds.WriteFault) holds
 of_thread P Q f OutOfMemory holds = f (ThreadEnds.Ran RunEnds.OutOfMemory) holds
@@ -349,6 +422,7 @@ unread_memory old new OutOfMemory faults cause = refl
 unread_memory old new Done faults cause = absurd cause
 unread_memory old new (File place error) faults cause = absurd cause
 unread_memory old new (Zero node block) faults cause = absurd cause
+unread_memory old new (Killed key losses) faults cause = absurd cause
 unread_memory old new WriteFault faults cause = absurd cause
 unread_memory old new Words faults cause = absurd cause
 unread_memory old new (Job error) faults cause = absurd cause
@@ -366,6 +440,7 @@ refusal_ends e OutOfMemory cause = inr (inr refl)
 refusal_ends e Done cause = absurd cause
 refusal_ends e (File place error) cause = absurd cause
 refusal_ends e (Zero node block) cause = absurd cause
+refusal_ends e (Killed key losses) cause = absurd cause
 refusal_ends e ReadFault cause = absurd cause
 refusal_ends e WriteFault cause = absurd cause
 refusal_ends e Words cause = absurd cause
@@ -426,13 +501,17 @@ same_outgrown p said read files same is = record {
       workers = is.run.plan_is.workers ∙ ap (λ (s : RunSettings). s.workers) same.settings;
       threads = is.run.plan_is.threads ∙ ap (λ (s : RunSettings). s.threads) same.settings;
       saturation = is.run.plan_is.saturation ∙ ap (λ (s : RunSettings). s.saturation) same.settings;
+      allowed = is.run.plan_is.allowed ∙ ap (λ (s : RunSettings). s.allowed) same.settings;
       script = is.run.plan_is.script ∙ same.script;
     };
-    run = is.run.run;
+    run = subst (λ (s : RunSettings). IsOutgrown (label is.told s.allowed is.named (tasks_of p)) (shape_of (tasks_of p)) is.run.plan) same.settings is.run.run;
   };
 }
 
--- which workers there are, and what happens to them, decides of how a run ends only whether a core has taken all events
+allows_run : (said read : RunWords) → SameRun said read → AllowsRun read → AllowsRun said
+allows_run said read same all = let A : Option ℕ × List Item → Type 0 = λ x. AllowsAll x.0 x.1 in subst A (λ i. ((sym same.settings i).allowed, sym same.script i)) all
+
+-- of the words it is what losses are allowed, and the script, that decide how a run ends, and all of the plan only whether a core has taken all events
 ran : (said read : RunWords) (old : View) (status : ℕ) → SameRun said read → EndsByTexts (string_bytes said.job ∷ []) (Running said) old status → EndsByTexts (string_bytes read.job ∷ []) (Running read) old status
 ran said read old status same ends =
     let there = same_source (Running said) (string_bytes said.job) (string_bytes read.job) old status same.job ends in
@@ -441,9 +520,12 @@ ran said read old status same ends =
       runs = λ p says. let e = there.runs p says in record {
         large = e.large;
         unfit = e.unfit;
-        some = e.some;
-        none = e.none;
-        either = e.either;
+        some = λ tells small fit meet all. e.some tells small fit meet (allows_run said read same all);
+        none = λ tells small fit meet all. e.none tells small fit meet (allows_run said read same all);
+        either = λ small fit all. e.either small fit (allows_run said read same all);
+        some_killed = e.some_killed;
+        none_killed = e.none_killed;
+        either_killed = e.either_killed;
         events = λ small is. same_outgrown p said read old.files same (e.events small is);
       };
     }
@@ -454,7 +536,7 @@ is_kind p files said read job wanted same is = record {
   small = is.small;
   inputs = is.inputs;
   named = is.named;
-  runs = is.runs ∙ ap (λ (x : Settings). job_of (setting_of (shape_of (tasks_of p)) 1 x.saturation) (operation is.named (tasks_of p))) same;
+  runs = is.runs ∙ ap (λ (x : Settings). job_of (setting_of (shape_of (tasks_of p)) 1 x.saturation x.allowed) (operation is.named (tasks_of p))) same;
   wants = is.wants;
   told = is.told;
 }
@@ -470,6 +552,9 @@ never_ends p said read old same never =
       ends = subst U (λ i. (same.settings i, same.script i)) never.ends;
     }
 
+allows : (said read : SimWords) → SameSim said read → Allows read → Allows said
+allows said read same all = let A : Option ℕ × List Item → Type 0 = λ x. AllowsAll x.0 x.1 in subst A (λ i. ((sym same.settings i).allowed, sym same.script i)) all
+
 simulated : (said read : SimWords) (old : View) (status : ℕ) → SameSim said read → EndsByTexts (string_bytes said.job ∷ []) (Simulation said) old status → EndsByTexts (string_bytes read.job ∷ []) (Simulation read) old status
 simulated said read old status same ends =
     let there = same_source (Simulation said) (string_bytes said.job) (string_bytes read.job) old status same.job ends in
@@ -478,10 +563,12 @@ simulated said read old status same ends =
       runs = λ p says. let e = there.runs p says in record {
         large = e.large;
         unfit = e.unfit;
-        some = λ small fit meet going. e.some small fit meet (λ never. going (never_ends p said read old same never));
-        none = λ small fit meet going. e.none small fit meet (λ never. going (never_ends p said read old same never));
-        some_limit = e.some_limit;
-        none_limit = e.none_limit;
+        some = λ small fit meet going all. e.some small fit meet (λ never. going (never_ends p said read old same never)) (allows said read same all);
+        none = λ small fit meet going all. e.none small fit meet (λ never. going (never_ends p said read old same never)) (allows said read same all);
+        some_limit = λ small fit meet all. e.some_limit small fit meet (allows said read same all);
+        none_limit = λ small fit meet all. e.none_limit small fit meet (allows said read same all);
+        some_killed = e.some_killed;
+        none_killed = e.none_killed;
       };
     }
 
@@ -501,6 +588,7 @@ number_completes w old new (Limit quantity) faults cause = absurd cause
 number_completes w old new (Graph quantity) faults cause = absurd cause
 number_completes w old new (File place error) faults cause = absurd cause
 number_completes w old new (Zero node block) faults cause = absurd cause
+number_completes w old new (Killed key losses) faults cause = absurd cause
 number_completes w old new ReadFault faults cause = absurd cause
 
 -- ## One command

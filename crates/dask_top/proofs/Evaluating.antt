@@ -31,6 +31,7 @@ cause_told p old mid new RunEnds.Done only cause = (cause.0, cause.1, given_late
 cause_told p old mid new (RunEnds.Limit quantity) only cause = cause
 cause_told p old mid new (RunEnds.File place error) only cause = (cause.0, cause.1, given_later old.gave mid.gave new.gave (λ holds. FirstRefusal p (map holds p.inputs) place error) cause.2 (more_same mid.gave new.gave only.gave))
 cause_told p old mid new (RunEnds.Zero node block) only cause = (cause.0, cause.1, given_later old.gave mid.gave new.gave _ cause.2 (more_same mid.gave new.gave only.gave))
+cause_told p old mid new (RunEnds.Killed key losses) only cause = absurd cause
 cause_told p old mid new RunEnds.ReadFault only cause = rw only.read_faults cause
 cause_told p old mid new RunEnds.WriteFault only cause = rw (only.write_faults, only.print_faults) cause
 cause_told p old mid new RunEnds.OutOfMemory only cause = tt
@@ -56,6 +57,7 @@ prints_told p old mid new RunEnds.WriteFault only prints = front_told p old mid 
 prints_told p old mid new (RunEnds.Limit quantity) only prints = only.out ∙ prints
 prints_told p old mid new (RunEnds.File place error) only prints = only.out ∙ prints
 prints_told p old mid new (RunEnds.Zero node block) only prints = only.out ∙ prints
+prints_told p old mid new (RunEnds.Killed key losses) only prints = only.out ∙ prints
 prints_told p old mid new RunEnds.ReadFault only prints = only.out ∙ prints
 prints_told p old mid new RunEnds.OutOfMemory only prints = only.out ∙ prints
 
@@ -81,6 +83,7 @@ pub refusal_opened : (sources inputs : List (List ℕ)) (old new : List ℕ → 
 refusal_opened sources inputs old new (RunEnds.File place error) is opened = opened
 refusal_opened sources inputs old new (RunEnds.Limit quantity) is opened = raised_first sources inputs old new opened
 refusal_opened sources inputs old new (RunEnds.Zero node block) is opened = raised_at_most (sources ++ inputs) old new opened
+refusal_opened sources inputs old new (RunEnds.Killed key losses) is opened = raised_at_most (sources ++ inputs) old new opened
 refusal_opened sources inputs old new RunEnds.Done is opened = absurd is
 refusal_opened sources inputs old new RunEnds.ReadFault is opened = absurd is
 refusal_opened sources inputs old new RunEnds.WriteFault is opened = absurd is
@@ -90,6 +93,7 @@ refusal_saves : (p : Plan) (old new : Files) (end : Ended) → IsRefusal (end_of
 refusal_saves p old new (RunEnds.File place error) is saves = left_alone p old new saves
 refusal_saves p old new (RunEnds.Limit quantity) is saves = left_alone p old new saves
 refusal_saves p old new (RunEnds.Zero node block) is saves = saves
+refusal_saves p old new (RunEnds.Killed key losses) is saves = saves
 refusal_saves p old new RunEnds.Done is saves = absurd is
 refusal_saves p old new RunEnds.ReadFault is saves = absurd is
 refusal_saves p old new RunEnds.WriteFault is saves = absurd is
@@ -99,6 +103,7 @@ pub refusal_created : (names : List (List ℕ)) (old new : List ℕ → ℕ) (en
 refusal_created names old new (RunEnds.File place error) is created = none_raised names old new created
 refusal_created names old new (RunEnds.Limit quantity) is created = none_raised names old new created
 refusal_created names old new (RunEnds.Zero node block) is created = raised_at_most names old new created
+refusal_created names old new (RunEnds.Killed key losses) is created = raised_at_most names old new created
 refusal_created names old new RunEnds.Done is created = absurd is
 refusal_created names old new RunEnds.ReadFault is created = absurd is
 refusal_created names old new RunEnds.WriteFault is created = absurd is
@@ -108,6 +113,7 @@ refusal_prints : (p : Plan) (old new : View) (end : Ended) → IsRefusal (end_of
 refusal_prints p old new (RunEnds.File place error) is prints = prints
 refusal_prints p old new (RunEnds.Limit quantity) is prints = prints
 refusal_prints p old new (RunEnds.Zero node block) is prints = prints
+refusal_prints p old new (RunEnds.Killed key losses) is prints = prints
 refusal_prints p old new RunEnds.Done is prints = absurd is
 refusal_prints p old new RunEnds.ReadFault is prints = absurd is
 refusal_prints p old new RunEnds.WriteFault is prints = absurd is
@@ -131,6 +137,7 @@ run_is P RunEnds.Done holds = holds
 run_is P (RunEnds.Limit quantity) holds = holds
 run_is P (RunEnds.File place error) holds = holds
 run_is P (RunEnds.Zero node block) holds = holds
+run_is P (RunEnds.Killed key losses) holds = holds
 run_is P RunEnds.ReadFault holds = holds
 run_is P RunEnds.WriteFault holds = holds
 run_is P RunEnds.OutOfMemory holds = holds
@@ -173,6 +180,7 @@ cause_before p old mid new (RunEnds.Zero node block) held tells only later cause
   record { inputs = fit_before p old.files mid.files held tells cause.1.inputs; zero_at = rw (← held) cause.1.zero_at },
   given_before old.gave mid.gave new.gave _ only.gave cause.2,
 )
+cause_before p old mid new (RunEnds.Killed key losses) held tells only later cause = absurd cause
 cause_before p old mid new RunEnds.ReadFault held tells only later cause = (cause.0, rose_later old.read_faults mid.read_faults new.read_faults later cause.1)
 cause_before p old mid new RunEnds.WriteFault held tells only later cause = (cause.0, fit_before p old.files mid.files held tells cause.1, writes_before p old mid new held tells only cause.2)
 cause_before p old mid new RunEnds.OutOfMemory held tells only later cause = tt
@@ -185,6 +193,7 @@ saves_before p old mid new RunEnds.Done held tells saves = rw (← held, ← tel
 saves_before p old mid new (RunEnds.Limit quantity) held tells saves = saves ∙ held
 saves_before p old mid new (RunEnds.File place error) held tells saves = saves ∙ held
 saves_before p old mid new (RunEnds.Zero node block) held tells saves = right_before p old mid new held tells saves
+saves_before p old mid new (RunEnds.Killed key losses) held tells saves = right_before p old mid new held tells saves
 saves_before p old mid new RunEnds.ReadFault held tells saves = right_before p old mid new held tells saves
 saves_before p old mid new RunEnds.WriteFault held tells saves = right_before p old mid new held tells saves
 saves_before p old mid new RunEnds.OutOfMemory held tells saves = right_before p old mid new held tells saves
@@ -197,6 +206,7 @@ opened_before names more old mid new RunEnds.Done opens first opened = all_befor
 opened_before names more old mid new (RunEnds.Limit quantity) opens first opened = opened ∙ first
 opened_before names more old mid new (RunEnds.File place error) opens first opened = raised_more names more old mid new opens opened
 opened_before names more old mid new (RunEnds.Zero node block) opens first opened = all_before names more old.opened mid.opened new first opened
+opened_before names more old mid new (RunEnds.Killed key losses) opens first opened = all_before names more old.opened mid.opened new first opened
 opened_before names more old mid new RunEnds.ReadFault opens first opened = raised_more names more old mid new opens opened
 opened_before names more old mid new RunEnds.WriteFault opens first opened = raised_more names more old mid new opens opened
 opened_before names more old mid new RunEnds.OutOfMemory opens first opened = raised_more names more old mid new opens opened
@@ -227,6 +237,7 @@ prints_before p old mid new RunEnds.WriteFault held tells created only prints = 
 prints_before p old mid new (RunEnds.Limit quantity) held tells created only prints = prints ∙ only.out
 prints_before p old mid new (RunEnds.File place error) held tells created only prints = prints ∙ only.out
 prints_before p old mid new (RunEnds.Zero node block) held tells created only prints = prints ∙ only.out
+prints_before p old mid new (RunEnds.Killed key losses) held tells created only prints = prints ∙ only.out
 prints_before p old mid new RunEnds.ReadFault held tells created only prints = prints ∙ only.out
 prints_before p old mid new RunEnds.OutOfMemory held tells created only prints = prints ∙ only.out
 

@@ -14,10 +14,12 @@ use Rattle.job_run.specs.Runs.{AreRight, Created, StopsPrinting}
 use Rattle.job_run.proofs.Counting.{times-append}
 use Rattle.thread_run.specs.Counts.{RaisedBetween, feeds, repeated}
 use Rattle.thread_run.specs.Ends.{Cause, HasValues, Saves, Opened, Looked, Prints, PrintsRun, IsOutgrownRun, LeavesAs, RunsByThreads, WritesFail, left_as, lines_of, openings}
+use Rattle.thread_run.specs.Losses.{losses_by}
 use Rattle.thread_run.specs.Reports.{IsToldRun}
 use Rattle.thread_run.specs.declared.ends.ThreadEnded.{ThreadEnded}
 use Rattle.thread_run.specs.declared.ends.ThreadEnded.TheVariants as ThreadEnds
 use Rattle.thread_run.specs.declared.verdict.Told.{Told as ToldOfRun}
+use Rattle.thread_run.proofs.Serves.{kill-as}
 use Rattle.dask_top.specs.declared.answer.End.{End}
 use Rattle.dask_top.specs.Answers.{Performs}
 use Rattle.dask_top.specs.Commands.{Running}
@@ -25,7 +27,7 @@ use Rattle.dask_top.specs.Ends.{Notes, thread_end}
 use Rattle.dask_top.specs.Opening.{TextRead, JobRead}
 use Rattle.dask_top.specs.Telling.{IsRefusal, Told, end_of, thread_end_of}
 use Rattle.dask_top.specs.Works.{RunningOpened, Runs, RunsToEnd, WorkDoes}
-use Rattle.dask_top.proofs.Evaluating.{cause_before, fit_before, refusal_created, right_before, saves_before, stops_before, stops_told}
+use Rattle.dask_top.proofs.Evaluating.{cause_before, fit_before, refusal_created, right_before, rose_later, saves_before, stops_before, stops_told}
 use Rattle.dask_top.proofs.Opening.{raised_by-append, raised_first, raised_more}
 use Rattle.dask_top.proofs.Reading.{is_given, is_read}
 use Rattle.dask_top.proofs.Unread.{notes_before}
@@ -33,14 +35,19 @@ use Rattle.job_run.proofs.Running.{left_alone}
 
 -- ## After it, only standard error got its line
 
-cause_told : (p : Plan) (old mid new : View) (end : Ended) → OnlyErr mid new → Cause p old mid end → Cause p old new end
-cause_told p old mid new RunEnds.Done only cause = (cause.0, cause.1, given_later old.gave mid.gave new.gave _ cause.2 (more_same mid.gave new.gave only.gave))
-cause_told p old mid new (RunEnds.Limit quantity) only cause = cause
-cause_told p old mid new (RunEnds.File place error) only cause = (cause.0, cause.1, given_later old.gave mid.gave new.gave (λ holds. FirstRefusal p (map holds p.inputs) place error) cause.2 (more_same mid.gave new.gave only.gave))
-cause_told p old mid new (RunEnds.Zero node block) only cause = (cause.0, cause.1, given_later old.gave mid.gave new.gave _ cause.2 (more_same mid.gave new.gave only.gave))
-cause_told p old mid new RunEnds.ReadFault only cause = rw only.read_faults cause
-cause_told p old mid new RunEnds.WriteFault only cause = rw (only.write_faults, only.print_faults) cause
-cause_told p old mid new RunEnds.OutOfMemory only cause = tt
+cause_told : (p : Plan) (said : RunWords) (old mid new : View) (end : Ended) → OnlyErr mid new → Cause p said old mid end → Cause p said old new end
+cause_told p said old mid new RunEnds.Done only cause = (cause.0, cause.1, given_later old.gave mid.gave new.gave _ cause.2 (more_same mid.gave new.gave only.gave))
+cause_told p said old mid new (RunEnds.Limit quantity) only cause = cause
+cause_told p said old mid new (RunEnds.File place error) only cause = (cause.0, cause.1, given_later old.gave mid.gave new.gave (λ holds. FirstRefusal p (map holds p.inputs) place error) cause.2 (more_same mid.gave new.gave only.gave))
+cause_told p said old mid new (RunEnds.Zero node block) only cause = (cause.0, cause.1, given_later old.gave mid.gave new.gave _ cause.2 (more_same mid.gave new.gave only.gave))
+cause_told p said old mid new (RunEnds.Killed key losses) only cause = (
+  cause.0,
+  record { inputs = cause.1.inputs; needed = cause.1.needed; kill = rw only.read_faults cause.1.kill },
+  given_later old.gave mid.gave new.gave _ cause.2 (more_same mid.gave new.gave only.gave),
+)
+cause_told p said old mid new RunEnds.ReadFault only cause = rw only.read_faults cause
+cause_told p said old mid new RunEnds.WriteFault only cause = rw (only.write_faults, only.print_faults) cause
+cause_told p said old mid new RunEnds.OutOfMemory only cause = tt
 
 -- what is told of a run over files is told of it over files that hold the same
 told_first : (p : Plan) (said : RunWords) (old mid : Files) → mid.held ≡ old.held → mid.tells ≡ old.tells → (told : ToldOfRun) → IsToldRun p said mid told → IsToldRun p said old told
@@ -61,6 +68,7 @@ prints_told p said old mid new RunEnds.WriteFault only prints = elim prints [
 prints_told p said old mid new (RunEnds.Limit quantity) only prints = only.out ∙ prints
 prints_told p said old mid new (RunEnds.File place error) only prints = only.out ∙ prints
 prints_told p said old mid new (RunEnds.Zero node block) only prints = only.out ∙ prints
+prints_told p said old mid new (RunEnds.Killed key losses) only prints = only.out ∙ prints
 prints_told p said old mid new RunEnds.ReadFault only prints = only.out ∙ prints
 prints_told p said old mid new RunEnds.OutOfMemory only prints = only.out ∙ prints
 
@@ -72,7 +80,7 @@ runs_told sources p said old mid new end only e =
     let O : Files → Type 0 = λ x. RunningOpened sources p said old.files.opened x.opened end in
     let C : Files → Type 0 = λ x. Created (names_saved p) old.files.created x.created end in
     record {
-      cause = cause_told p old mid new end only e.cause;
+      cause = cause_told p said old mid new end only e.cause;
       saves = subst S (sym only.files) e.saves;
       looked = subst L (sym only.files) e.looked;
       others = λ n none. ap (λ (x : Files). x.held n) only.files ∙ e.others n none;
@@ -110,6 +118,7 @@ runs_starved sources p said old new (RunEnds.File place error) is e =
 runs_starved sources p said old new (RunEnds.Limit quantity) is e =
     starved sources p said old new (RunEnds.Limit quantity) is (λ t. left_alone p old.files new.files e.saves) e.prints (raised_first sources (openings p said) old.files.opened new.files.opened e.opened) e
 runs_starved sources p said old new (RunEnds.Zero node block) is e = starved sources p said old new (RunEnds.Zero node block) is e.saves e.prints e.opened.at_most e
+runs_starved sources p said old new (RunEnds.Killed key losses) is e = starved sources p said old new (RunEnds.Killed key losses) is e.saves e.prints e.opened.at_most e
 runs_starved sources p said old new RunEnds.Done is e = absurd is
 runs_starved sources p said old new RunEnds.ReadFault is e = absurd is
 runs_starved sources p said old new RunEnds.WriteFault is e = absurd is
@@ -129,6 +138,7 @@ thread_is P (ThreadEnds.Ran RunEnds.Done) holds = holds
 thread_is P (ThreadEnds.Ran (RunEnds.Limit quantity)) holds = holds
 thread_is P (ThreadEnds.Ran (RunEnds.File place error)) holds = holds
 thread_is P (ThreadEnds.Ran (RunEnds.Zero node block)) holds = holds
+thread_is P (ThreadEnds.Ran (RunEnds.Killed key losses)) holds = holds
 thread_is P (ThreadEnds.Ran RunEnds.ReadFault) holds = holds
 thread_is P (ThreadEnds.Ran RunEnds.WriteFault) holds = holds
 thread_is P (ThreadEnds.Ran RunEnds.OutOfMemory) holds = holds
@@ -160,24 +170,34 @@ writes_first p old mid new held tells only fail = elim fail [
   | inr print ↦ inr (values_first p old.files mid.files held tells print.0, rw (← only.print_faults) print.1)
 ]
 
-cause_first : (p : Plan) (old mid new : View) (end : Ended) → mid.files.held ≡ old.files.held → mid.files.tells ≡ old.files.tells → OnlyReads old mid → old.read_faults ≤ mid.read_faults → Cause p mid new end
-    → Cause p old new end
-cause_first p old mid new RunEnds.Done held tells only later cause =
+cause_first : (p : Plan) (said : RunWords) (old mid new : View) (end : Ended) → mid.files.held ≡ old.files.held → mid.files.tells ≡ old.files.tells → OnlyReads old mid → old.read_faults ≤ mid.read_faults → Cause p said mid new end
+    → Cause p said old new end
+cause_first p said old mid new RunEnds.Done held tells only later cause =
     (cause.0, values_first p old.files mid.files held tells cause.1, given_before old.gave mid.gave new.gave _ only.gave cause.2)
-cause_first p old mid new (RunEnds.Limit quantity) held tells only later cause = cause
-cause_first p old mid new (RunEnds.File place error) held tells only later cause = cause_before p old mid new (RunEnds.File place error) held tells only later cause
-cause_first p old mid new (RunEnds.Zero node block) held tells only later cause = (
+cause_first p said old mid new (RunEnds.Limit quantity) held tells only later cause = cause
+cause_first p said old mid new (RunEnds.File place error) held tells only later cause = cause_before p old mid new (RunEnds.File place error) held tells only later cause
+cause_first p said old mid new (RunEnds.Zero node block) held tells only later cause = (
   cause.0,
   record { inputs = fit_before p old.files mid.files held tells cause.1.inputs; needed = cause.1.needed; zero_at = rw (← held, ← tells) cause.1.zero_at },
   given_before old.gave mid.gave new.gave _ only.gave cause.2,
 )
-cause_first p old mid new RunEnds.ReadFault held tells only later cause = cause_before p old mid new RunEnds.ReadFault held tells only later cause
-cause_first p old mid new RunEnds.WriteFault held tells only later cause =
+cause_first p said old mid new (RunEnds.Killed key losses) held tells only later cause = (
+  cause.0,
+  record {
+    inputs = fit_before p old.files mid.files held tells cause.1.inputs;
+    needed = rw (← held, ← tells) cause.1.needed;
+    kill = kill-as (losses_by said) _ _ losses (rose_later old.read_faults mid.read_faults new.read_faults later) cause.1.kill;
+  },
+  given_before old.gave mid.gave new.gave _ only.gave cause.2,
+)
+cause_first p said old mid new RunEnds.ReadFault held tells only later cause = cause_before p old mid new RunEnds.ReadFault held tells only later cause
+cause_first p said old mid new RunEnds.WriteFault held tells only later cause =
     (cause.0, fit_before p old.files mid.files held tells cause.1, writes_first p old mid new held tells only cause.2)
-cause_first p old mid new RunEnds.OutOfMemory held tells only later cause = tt
+cause_first p said old mid new RunEnds.OutOfMemory held tells only later cause = tt
 
 saves_first : (p : Plan) (old mid new : Files) (end : Ended) → mid.held ≡ old.held → mid.tells ≡ old.tells → Saves p mid new end → Saves p old new end
 saves_first p old mid new (RunEnds.Zero node block) held tells saves = λ t. right_before p old mid new held tells (saves (tells ∙ t))
+saves_first p old mid new (RunEnds.Killed key losses) held tells saves = λ t. right_before p old mid new held tells (saves (tells ∙ t))
 saves_first p old mid new (RunEnds.Limit quantity) held tells saves = saves ∙ held
 saves_first p old mid new (RunEnds.File place error) held tells saves = saves ∙ held
 saves_first p old mid new RunEnds.Done held tells saves = saves_before p old mid new RunEnds.Done held tells saves
@@ -200,6 +220,7 @@ opened_first names p said old mid new RunEnds.Done opens first opened = between_
 opened_first names p said old mid new (RunEnds.Limit quantity) opens first opened = opened ∙ first
 opened_first names p said old mid new (RunEnds.File place error) opens first opened = raised_more names p.inputs old mid new opens opened
 opened_first names p said old mid new (RunEnds.Zero node block) opens first opened = between_first names p.inputs (openings p said) old mid new opens first opened
+opened_first names p said old mid new (RunEnds.Killed key losses) opens first opened = between_first names p.inputs (openings p said) old mid new opens first opened
 opened_first names p said old mid new RunEnds.ReadFault opens first opened = raised_more names (openings p said) old mid new opens opened
 opened_first names p said old mid new RunEnds.WriteFault opens first opened = between_first names p.inputs (openings p said) old mid new opens first opened
 opened_first names p said old mid new RunEnds.OutOfMemory opens first opened = raised_more names (openings p said) old mid new opens opened
@@ -230,6 +251,7 @@ prints_first p said old mid new RunEnds.WriteFault held tells created only print
 prints_first p said old mid new (RunEnds.Limit quantity) held tells created only prints = prints ∙ only.out
 prints_first p said old mid new (RunEnds.File place error) held tells created only prints = prints ∙ only.out
 prints_first p said old mid new (RunEnds.Zero node block) held tells created only prints = prints ∙ only.out
+prints_first p said old mid new (RunEnds.Killed key losses) held tells created only prints = prints ∙ only.out
 prints_first p said old mid new RunEnds.ReadFault held tells created only prints = prints ∙ only.out
 prints_first p said old mid new RunEnds.OutOfMemory held tells created only prints = prints ∙ only.out
 
@@ -238,7 +260,7 @@ runs names p said old mid new read end t by =
     let opens = t.opens in
     let C : (List ℕ → ℕ) → Type 0 = λ f. Created (names_saved p) f new.files.created end in
     record {
-      cause = cause_first p old mid new end opens.held opens.tells t.only t.later by.cause;
+      cause = cause_first p said old mid new end opens.held opens.tells t.only t.later by.cause;
       saves = saves_first p old.files mid.files new.files end opens.held opens.tells by.saves;
       looked = looked_first names p said old.files mid.files new.files opens t.opened by.looked;
       others = λ n none. by.others n none ∙ ap (λ f. f n) opens.held;

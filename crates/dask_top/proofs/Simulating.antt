@@ -14,7 +14,7 @@ use Rattle.command_words.specs.declared.sim.SimWords.{SimWords}
 use Rattle.sim_run.specs.declared.ends.SimEnded.{SimEnded}
 use Rattle.sim_run.specs.declared.ends.SimEnded.TheVariants as SimEnds
 use Rattle.sim_run.specs.Ends.{Cause as SimCause, Saves as SimSaves, RanSaves, Opened as SimOpens, Created as SimCreated, Prints as SimPrints, SimulatesPlan}
-use Rattle.sim_run.specs.Simulated.{IsOutOfEvents}
+use Rattle.sim_run.specs.Simulated.{IsKilled, IsOutOfEvents}
 use Rattle.dask_top.specs.declared.answer.End.{End}
 use Rattle.dask_top.specs.Answers.{Performs}
 use Rattle.dask_top.specs.Commands.{Simulation}
@@ -36,6 +36,7 @@ cause_told p said old mid new (SimEnds.Ran RunEnds.Done) only cause = cause
 cause_told p said old mid new (SimEnds.Ran (RunEnds.Limit quantity)) only cause = cause
 cause_told p said old mid new (SimEnds.Ran (RunEnds.File place error)) only cause = (cause.0, cause.1, given_later old.gave mid.gave new.gave (λ holds. FirstRefusal p (map holds p.inputs) place error) cause.2 (more_same mid.gave new.gave only.gave))
 cause_told p said old mid new (SimEnds.Ran (RunEnds.Zero node block)) only cause = cause
+cause_told p said old mid new (SimEnds.Ran (RunEnds.Killed key losses)) only cause = cause
 cause_told p said old mid new (SimEnds.Ran RunEnds.ReadFault) only cause = rw only.read_faults cause
 cause_told p said old mid new (SimEnds.Ran RunEnds.WriteFault) only cause = rw (only.write_faults, only.print_faults) cause
 cause_told p said old mid new (SimEnds.Ran RunEnds.OutOfMemory) only cause = tt
@@ -49,6 +50,7 @@ prints_told p said old mid new (SimEnds.Ran RunEnds.WriteFault) only prints =
 prints_told p said old mid new (SimEnds.Ran (RunEnds.Limit quantity)) only prints = only.out ∙ prints
 prints_told p said old mid new (SimEnds.Ran (RunEnds.File place error)) only prints = only.out ∙ prints
 prints_told p said old mid new (SimEnds.Ran (RunEnds.Zero node block)) only prints = only.out ∙ prints
+prints_told p said old mid new (SimEnds.Ran (RunEnds.Killed key losses)) only prints = only.out ∙ prints
 prints_told p said old mid new (SimEnds.Ran RunEnds.ReadFault) only prints = only.out ∙ prints
 prints_told p said old mid new (SimEnds.Ran RunEnds.OutOfMemory) only prints = only.out ∙ prints
 
@@ -86,6 +88,7 @@ simulates_starved : (sources : List (List ℕ)) (p : Plan) (said : SimWords) (ol
 simulates_starved sources p said old new (SimEnds.Ran (RunEnds.File place error)) is e = starved sources p said old new (RunEnds.File place error) is e.saves e.created e.prints e
 simulates_starved sources p said old new (SimEnds.Ran (RunEnds.Limit quantity)) is e = starved sources p said old new (RunEnds.Limit quantity) is e.saves e.created e.prints e
 simulates_starved sources p said old new (SimEnds.Ran (RunEnds.Zero node block)) is e = starved sources p said old new (RunEnds.Zero node block) is e.saves e.created e.prints e
+simulates_starved sources p said old new (SimEnds.Ran (RunEnds.Killed key losses)) is e = starved sources p said old new (RunEnds.Killed key losses) is e.saves e.created e.prints e
 simulates_starved sources p said old new (SimEnds.Ran RunEnds.Done) is e = absurd is
 simulates_starved sources p said old new (SimEnds.Ran RunEnds.ReadFault) is e = absurd is
 simulates_starved sources p said old new (SimEnds.Ran RunEnds.WriteFault) is e = absurd is
@@ -100,6 +103,7 @@ sim_is P (SimEnds.Ran RunEnds.Done) holds = holds
 sim_is P (SimEnds.Ran (RunEnds.Limit quantity)) holds = holds
 sim_is P (SimEnds.Ran (RunEnds.File place error)) holds = holds
 sim_is P (SimEnds.Ran (RunEnds.Zero node block)) holds = holds
+sim_is P (SimEnds.Ran (RunEnds.Killed key losses)) holds = holds
 sim_is P (SimEnds.Ran RunEnds.ReadFault) holds = holds
 sim_is P (SimEnds.Ran RunEnds.WriteFault) holds = holds
 sim_is P (SimEnds.Ran RunEnds.OutOfMemory) holds = holds
@@ -121,12 +125,19 @@ sim_cause_before p said old mid new (SimEnds.Ran RunEnds.Done) held tells only l
 sim_cause_before p said old mid new (SimEnds.Ran (RunEnds.Limit quantity)) held tells only later cause = cause
 sim_cause_before p said old mid new (SimEnds.Ran (RunEnds.File place error)) held tells only later cause = cause_before p old mid new (RunEnds.File place error) held tells only later cause
 sim_cause_before p said old mid new (SimEnds.Ran (RunEnds.Zero node block)) held tells only later cause = (cause.0, record { inputs = fit_before p old.files mid.files held tells cause.1.inputs; zero_at = rw (← held) cause.1.zero_at })
+sim_cause_before p said old mid new (SimEnds.Ran (RunEnds.Killed key losses)) held tells only later cause = (
+  cause.0,
+  fit_before p old.files mid.files held tells cause.1,
+  cause.2,
+  told_over p said old.files mid.files held (fit_before p old.files mid.files held tells) (λ job wanted s. IsKilled job wanted s key) cause.3,
+)
 sim_cause_before p said old mid new (SimEnds.Ran RunEnds.ReadFault) held tells only later cause = cause_before p old mid new RunEnds.ReadFault held tells only later cause
 sim_cause_before p said old mid new (SimEnds.Ran RunEnds.WriteFault) held tells only later cause = (cause.0, values_before p old.files mid.files held tells cause.1, rw (← only.write_faults, ← only.print_faults) cause.2)
 sim_cause_before p said old mid new (SimEnds.Ran RunEnds.OutOfMemory) held tells only later cause = tt
 
 ran_saves_before : (p : Plan) (old mid new : Files) (end : Ended) → mid.held ≡ old.held → mid.tells ≡ old.tells → RanSaves p mid new end → RanSaves p old new end
 ran_saves_before p old mid new (RunEnds.Zero node block) held tells saves = saves ∙ held
+ran_saves_before p old mid new (RunEnds.Killed key losses) held tells saves = saves ∙ held
 ran_saves_before p old mid new (RunEnds.Limit quantity) held tells saves = saves ∙ held
 ran_saves_before p old mid new (RunEnds.File place error) held tells saves = saves ∙ held
 ran_saves_before p old mid new RunEnds.Done held tells saves = saves_before p old mid new RunEnds.Done held tells saves
@@ -154,6 +165,7 @@ sim_prints_before p said old mid new (SimEnds.Ran RunEnds.WriteFault) held tells
 sim_prints_before p said old mid new (SimEnds.Ran (RunEnds.Limit quantity)) held tells created only prints = prints ∙ only.out
 sim_prints_before p said old mid new (SimEnds.Ran (RunEnds.File place error)) held tells created only prints = prints ∙ only.out
 sim_prints_before p said old mid new (SimEnds.Ran (RunEnds.Zero node block)) held tells created only prints = prints ∙ only.out
+sim_prints_before p said old mid new (SimEnds.Ran (RunEnds.Killed key losses)) held tells created only prints = prints ∙ only.out
 sim_prints_before p said old mid new (SimEnds.Ran RunEnds.ReadFault) held tells created only prints = prints ∙ only.out
 sim_prints_before p said old mid new (SimEnds.Ran RunEnds.OutOfMemory) held tells created only prints = prints ∙ only.out
 

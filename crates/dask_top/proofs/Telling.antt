@@ -2,7 +2,7 @@
 use Rattle.std.proofs.Common.{◌≡◌, ℕ, List, subst}
 use Rattle.io_edge.specs.View.{View}
 use Rattle.dask_top.specs.declared.answer.End.{End}
-use Rattle.dask_top.specs.declared.answer.End.TheVariants.{Words, Job, Limit, Graph, Events, Done, File, Zero, ReadFault, WriteFault, OutOfMemory}
+use Rattle.dask_top.specs.declared.answer.End.TheVariants.{Words, Job, Limit, Graph, Events, Done, File, Zero, Killed, ReadFault, WriteFault, OutOfMemory}
 use Rattle.dask_top.specs.Ends.{GetsLine, Notes, line_of}
 use Rattle.dask_top.specs.Reading.{Reading}
 use Rattle.dask_top.specs.Telling.{IsRefusal}
@@ -12,6 +12,7 @@ refusal_notes reading old new (Job error) is gets = gets
 refusal_notes reading old new (Limit quantity) is gets = gets
 refusal_notes reading old new (File place error) is gets = gets
 refusal_notes reading old new (Zero node block) is gets = gets
+refusal_notes reading old new (Killed key losses) is gets = gets
 refusal_notes reading old new (Graph quantity) is gets = gets
 refusal_notes reading old new Done is gets = absurd is
 refusal_notes reading old new ReadFault is gets = absurd is

@@ -8,7 +8,7 @@ use Rattle.job_run.specs.Runs.{AreUntouched}
 use Rattle.job_run.proofs.Counting.{opened_most}
 use Rattle.job_text.specs.declared.error.JobError.{JobError}
 use Rattle.dask_top.specs.declared.answer.End.{End}
-use Rattle.dask_top.specs.declared.answer.End.TheVariants.{Words, Job, Limit, Graph, Events, Done, File, Zero, ReadFault, WriteFault, OutOfMemory}
+use Rattle.dask_top.specs.declared.answer.End.TheVariants.{Words, Job, Limit, Graph, Events, Done, File, Zero, Killed, ReadFault, WriteFault, OutOfMemory}
 use Rattle.dask_top.specs.Answers.{Performs}
 use Rattle.dask_top.specs.Commands.{Work}
 use Rattle.dask_top.specs.Ends.{GetsLine, Notes, line_of}
@@ -28,6 +28,7 @@ pub notes_before : (reading : Reading) (old mid new : View) (end : End) → mid.
 notes_before reading old mid new Done err faults notes = notes ∙ err
 notes_before reading old mid new (File place error) err faults notes = gets_before (line_of reading (File place error)) old mid new err faults notes
 notes_before reading old mid new (Zero node block) err faults notes = gets_before (line_of reading (Zero node block)) old mid new err faults notes
+notes_before reading old mid new (Killed key losses) err faults notes = gets_before (line_of reading (Killed key losses)) old mid new err faults notes
 notes_before reading old mid new ReadFault err faults notes = gets_before (line_of reading ReadFault) old mid new err faults notes
 notes_before reading old mid new WriteFault err faults notes = gets_before (line_of reading WriteFault) old mid new err faults notes
 notes_before reading old mid new OutOfMemory err faults notes = gets_before (line_of reading OutOfMemory) old mid new err faults notes
@@ -100,6 +101,7 @@ text_performs names old mid new read OutOfMemory now t ends told only notes work
 text_performs names old mid new read Done now t ends told only notes work = absurd ends
 text_performs names old mid new read (File place error) now t ends told only notes work = absurd ends
 text_performs names old mid new read (Zero node block) now t ends told only notes work = absurd ends
+text_performs names old mid new read (Killed key losses) now t ends told only notes work = absurd ends
 text_performs names old mid new read ReadFault now t ends told only notes work = absurd ends
 text_performs names old mid new read WriteFault now t ends told only notes work = absurd ends
 text_performs names old mid new read Words now t ends told only notes work = absurd ends

@@ -1,8 +1,10 @@
 -- How a command ends where nothing failed: as its job's text, its inputs and its values say.
-use Rattle.std.specs.Prelude.{◌≡◌, ◌⊎◌, ℕ, List, IsSomeAnd, IsTrue, Ok}
+use Rattle.std.specs.Prelude.{◌≡◌, ◌⊎◌, ◌≤◌, ℕ, List, Option, Some, None, IsSomeAnd, IsTrue, Ok}
 use Rattle.io_edge.specs.Cause.{Rose}
 use Rattle.io_edge.specs.View.{View}
 use Rattle.nd_shape.specs.Block.{Array}
+use Rattle.cluster_msgs.specs.Scripts.{removes_in}
+use Rattle.cluster_msgs.specs.declared.events.Item.{Item}
 use Rattle.job_run.specs.Inputs.{FitInputs, HoldArrays, told_all}
 use Rattle.job_run.specs.Plan.{Plan, input_shapes}
 use Rattle.job_run.specs.Runs.{IsSmall}
@@ -49,14 +51,27 @@ pub record EndsByInputs (p : Plan) (old : View) (status : ℕ) : Type 0 where
   pub some : IsSmall p → Tell p old (FitInputs p) → Tell p old (MeetZero p) → (status ≡ 4) ⊎ (status ≡ 8)
   pub none : IsSmall p → Tell p old (FitInputs p) → Tell p old (MeetNoZero p) → (status ≡ 0) ⊎ (status ≡ 8)
 
--- How a run by threads ends: as an evaluation of its job does, or after 2^40 events of a node's core. Its workers' blocks lie on disks of the site, too: so
--- zero divisors decide where it tells what it holds.
+-- a script takes workers away no more often than a key's worker may leave, where that is bounded
+abbrev pub AllowsAll : Option ℕ → List Item → Type 0
+AllowsAll None script = Unit {0}
+AllowsAll (Some most) script = removes_in script ≤ most
+
+abbrev pub AllowsRun : RunWords → Type 0
+AllowsRun said = AllowsAll said.settings.allowed said.script
+
+-- How a run by threads ends: as an evaluation of its job does, where all that the script takes away is allowed, or after 2^40 events of a node's core; else
+-- a key may be killed. Its workers' blocks lie on disks of the site, too: so zero divisors decide where it tells what it holds.
 pub record EndsByRun (p : Plan) (said : RunWords) (old : View) (status : ℕ) : Type 0 where
   pub large : ¬ IsSmall p → (status ≡ 9) ⊎ (status ≡ 8)
   pub unfit : IsSmall p → Tell p old (λ contents. ¬ FitInputs p contents) → (status ≡ 3) ⊎ (status ≡ 8)
-  pub some : IsTrue old.files.tells → IsSmall p → Tell p old (FitInputs p) → Tell p old (MeetZero p) → (status ≡ 4) ⊎ ((status ≡ 9) ⊎ (status ≡ 8))
-  pub none : IsTrue old.files.tells → IsSmall p → Tell p old (FitInputs p) → Tell p old (MeetNoZero p) → (status ≡ 0) ⊎ ((status ≡ 9) ⊎ (status ≡ 8))
-  pub either : IsSmall p → Tell p old (FitInputs p) → (status ≡ 0) ⊎ ((status ≡ 4) ⊎ ((status ≡ 9) ⊎ (status ≡ 8)))
+  pub some : IsTrue old.files.tells → IsSmall p → Tell p old (FitInputs p) → Tell p old (MeetZero p) → AllowsRun said → (status ≡ 4) ⊎ ((status ≡ 9) ⊎ (status ≡ 8))
+  pub none : IsTrue old.files.tells → IsSmall p → Tell p old (FitInputs p) → Tell p old (MeetNoZero p) → AllowsRun said → (status ≡ 0) ⊎ ((status ≡ 9) ⊎ (status ≡ 8))
+  pub either : IsSmall p → Tell p old (FitInputs p) → AllowsRun said → (status ≡ 0) ⊎ ((status ≡ 4) ⊎ ((status ≡ 9) ⊎ (status ≡ 8)))
+  pub some_killed : IsTrue old.files.tells → IsSmall p → Tell p old (FitInputs p) → Tell p old (MeetZero p)
+      → (status ≡ 4) ⊎ ((status ≡ 11) ⊎ ((status ≡ 9) ⊎ (status ≡ 8)))
+  pub none_killed : IsTrue old.files.tells → IsSmall p → Tell p old (FitInputs p) → Tell p old (MeetNoZero p)
+      → (status ≡ 0) ⊎ ((status ≡ 11) ⊎ ((status ≡ 9) ⊎ (status ≡ 8)))
+  pub either_killed : IsSmall p → Tell p old (FitInputs p) → (status ≡ 0) ⊎ ((status ≡ 4) ⊎ ((status ≡ 11) ⊎ ((status ≡ 9) ⊎ (status ≡ 8))))
   -- 9 comes of no other cause where no limit of the graph is passed
   pub events : IsSmall p → status ≡ 9 → IsOutgrownRun p said old.files
 
@@ -64,15 +79,20 @@ pub record EndsByRun (p : Plan) (said : RunWords) (old : View) (status : ℕ) : 
 abbrev pub NeverEnds : Plan → SimWords → View → Type 0
 NeverEnds p said old = SimulatesTo (IsTextJob p old.files said) said IsOutOfEvents
 
--- How a simulation of a job by these words ends: as an evaluation of it does, or after 2^40 events where as many are drawn without an end. At each of
--- these memory may be wanted instead.
+abbrev pub Allows : SimWords → Type 0
+Allows said = AllowsAll said.settings.allowed said.script
+
+-- How a simulation of a job by these words ends: as an evaluation of it does, where all that the script takes away is allowed, or after 2^40 events
+-- where as many are drawn without an end; else a key may be killed. At each of these memory may be wanted instead.
 pub record EndsBySimulation (p : Plan) (said : SimWords) (old : View) (status : ℕ) : Type 0 where
   pub large : ¬ IsSmall p → (status ≡ 9) ⊎ (status ≡ 8)
   pub unfit : IsSmall p → Tell p old (λ contents. ¬ FitInputs p contents) → (status ≡ 3) ⊎ (status ≡ 8)
-  pub some : IsSmall p → Tell p old (FitInputs p) → Tell p old (MeetZero p) → ¬ NeverEnds p said old → (status ≡ 4) ⊎ (status ≡ 8)
-  pub none : IsSmall p → Tell p old (FitInputs p) → Tell p old (MeetNoZero p) → ¬ NeverEnds p said old → (status ≡ 0) ⊎ (status ≡ 8)
-  pub some_limit : IsSmall p → Tell p old (FitInputs p) → Tell p old (MeetZero p) → (status ≡ 4) ⊎ ((status ≡ 9) ⊎ (status ≡ 8))
-  pub none_limit : IsSmall p → Tell p old (FitInputs p) → Tell p old (MeetNoZero p) → (status ≡ 0) ⊎ ((status ≡ 9) ⊎ (status ≡ 8))
+  pub some : IsSmall p → Tell p old (FitInputs p) → Tell p old (MeetZero p) → ¬ NeverEnds p said old → Allows said → (status ≡ 4) ⊎ (status ≡ 8)
+  pub none : IsSmall p → Tell p old (FitInputs p) → Tell p old (MeetNoZero p) → ¬ NeverEnds p said old → Allows said → (status ≡ 0) ⊎ (status ≡ 8)
+  pub some_limit : IsSmall p → Tell p old (FitInputs p) → Tell p old (MeetZero p) → Allows said → (status ≡ 4) ⊎ ((status ≡ 9) ⊎ (status ≡ 8))
+  pub none_limit : IsSmall p → Tell p old (FitInputs p) → Tell p old (MeetNoZero p) → Allows said → (status ≡ 0) ⊎ ((status ≡ 9) ⊎ (status ≡ 8))
+  pub some_killed : IsSmall p → Tell p old (FitInputs p) → Tell p old (MeetZero p) → (status ≡ 4) ⊎ ((status ≡ 11) ⊎ ((status ≡ 9) ⊎ (status ≡ 8)))
+  pub none_killed : IsSmall p → Tell p old (FitInputs p) → Tell p old (MeetNoZero p) → (status ≡ 0) ⊎ ((status ≡ 11) ⊎ ((status ≡ 9) ⊎ (status ≡ 8)))
 
 abbrev pub EndsByWork : Work → Plan → View → ℕ → Type 0
 EndsByWork (Running said) p old status = EndsByRun p said old status

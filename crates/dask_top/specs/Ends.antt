@@ -15,7 +15,7 @@ use Rattle.task_graph.specs.declared.limit.Quantity.TheVariants as Quantities
 use Rattle.thread_run.specs.declared.ends.ThreadEnded.{ThreadEnded}
 use Rattle.thread_run.specs.declared.ends.ThreadEnded.TheVariants as ThreadEnds
 use Rattle.dask_top.specs.declared.answer.End.{End}
-use Rattle.dask_top.specs.declared.answer.End.TheVariants.{Words, Job, Limit, Graph, Events, Done, File, Zero, ReadFault, WriteFault, OutOfMemory}
+use Rattle.dask_top.specs.declared.answer.End.TheVariants.{Words, Job, Limit, Graph, Events, Done, File, Zero, Killed, ReadFault, WriteFault, OutOfMemory}
 use Rattle.dask_top.specs.Reading.{Reading, plan_in}
 
 abbrev pub status_of : End → ℕ
@@ -27,6 +27,7 @@ status_of Events = 9
 status_of Done = 0
 status_of (File place error) = 3
 status_of (Zero node block) = 4
+status_of (Killed key losses) = 11
 status_of ReadFault = 5
 status_of WriteFault = 6
 status_of OutOfMemory = 8
@@ -37,6 +38,7 @@ run_end Done = Some RunEnds.Done
 run_end (Graph quantity) = Some (RunEnds.Limit quantity)
 run_end (File place error) = Some (RunEnds.File place error)
 run_end (Zero node block) = Some (RunEnds.Zero node block)
+run_end (Killed key losses) = Some (RunEnds.Killed key losses)
 run_end ReadFault = Some RunEnds.ReadFault
 run_end WriteFault = Some RunEnds.WriteFault
 run_end OutOfMemory = Some RunEnds.OutOfMemory
@@ -49,6 +51,7 @@ thread_end Done = Some (ThreadEnds.Ran RunEnds.Done)
 thread_end (Graph quantity) = Some (ThreadEnds.Ran (RunEnds.Limit quantity))
 thread_end (File place error) = Some (ThreadEnds.Ran (RunEnds.File place error))
 thread_end (Zero node block) = Some (ThreadEnds.Ran (RunEnds.Zero node block))
+thread_end (Killed key losses) = Some (ThreadEnds.Ran (RunEnds.Killed key losses))
 thread_end ReadFault = Some (ThreadEnds.Ran RunEnds.ReadFault)
 thread_end WriteFault = Some (ThreadEnds.Ran RunEnds.WriteFault)
 thread_end OutOfMemory = Some (ThreadEnds.Ran RunEnds.OutOfMemory)
@@ -61,6 +64,7 @@ sim_end Done = Some (SimEnds.Ran RunEnds.Done)
 sim_end (Graph quantity) = Some (SimEnds.Ran (RunEnds.Limit quantity))
 sim_end (File place error) = Some (SimEnds.Ran (RunEnds.File place error))
 sim_end (Zero node block) = Some (SimEnds.Ran (RunEnds.Zero node block))
+sim_end (Killed key losses) = Some (SimEnds.Ran (RunEnds.Killed key losses))
 sim_end ReadFault = Some (SimEnds.Ran RunEnds.ReadFault)
 sim_end WriteFault = Some (SimEnds.Ran RunEnds.WriteFault)
 sim_end OutOfMemory = Some (SimEnds.Ran RunEnds.OutOfMemory)
@@ -74,7 +78,7 @@ graph_text Quantities.Keys = codes "keys"
 graph_text Quantities.Edges = codes "edges"
 graph_text Quantities.BlockBytes = codes "block bytes"
 
--- The line names the block at which a divisor is zero, and by what was read the input that is refused.
+-- The line names the block at which a divisor is zero, a killed key with its losses, and by what was read the input that is refused.
 unfoldable pub line_of : Reading → End → List ℕ
 line_of reading Words = codes "dask: words\n"
 line_of reading (Job error) = codes "dask: job " ++ job_error_text error ++ codes "\n"
@@ -84,6 +88,7 @@ line_of reading Events = codes "dask: limit events\n"
 line_of reading Done = []
 line_of reading (File place error) = codes "dask: file " ++ slice_index_or (plan_in reading).inputs place [] ++ codes ": " ++ file_error_text error ++ codes "\n"
 line_of reading (Zero node block) = codes "dask: zero division: node " ++ decimal node ++ codes " block " ++ index_text block ++ codes "\n"
+line_of reading (Killed key losses) = codes "dask: killed worker: key " ++ decimal key ++ codes " losses " ++ decimal losses ++ codes "\n"
 line_of reading ReadFault = codes "dask: read fault\n"
 line_of reading WriteFault = codes "dask: write fault\n"
 line_of reading OutOfMemory = codes "dask: out of memory\n"

@@ -10,7 +10,7 @@ use Rattle.sim_run.specs.declared.ends.SimEnded.{SimEnded}
 use Rattle.sim_run.specs.declared.ends.SimEnded.TheVariants as SimEnds
 use Rattle.thread_run.specs.declared.ends.ThreadEnded.{ThreadEnded}
 use Rattle.thread_run.specs.declared.ends.ThreadEnded.TheVariants as ThreadEnds
-use Rattle.dask_top.specs.declared.answer.End.TheVariants.{Job, Limit, Graph, Events, Done, File, Zero, ReadFault, WriteFault, OutOfMemory}
+use Rattle.dask_top.specs.declared.answer.End.TheVariants.{Job, Limit, Graph, Events, Done, File, Zero, Killed, ReadFault, WriteFault, OutOfMemory}
 use Rattle.dask_top.specs.Reading.{Reading, plan_in}
 
 -- an end whose line is made when it comes
@@ -19,6 +19,7 @@ IsRefusal (Job error) = Unit {0}
 IsRefusal (Limit quantity) = Unit {0}
 IsRefusal (File place error) = Unit {0}
 IsRefusal (Zero node block) = Unit {0}
+IsRefusal (Killed key losses) = Unit {0}
 IsRefusal (Graph quantity) = Unit {0}
 IsRefusal end = ⊥
 
@@ -35,6 +36,7 @@ IsPlaced reading end = Unit {0}
 abbrev pub IsOfText : End → Type 0
 IsOfText (File place error) = ⊥
 IsOfText (Zero node block) = ⊥
+IsOfText (Killed key losses) = ⊥
 IsOfText end = Unit {0}
 
 -- the end of the program that a run's is
@@ -43,6 +45,7 @@ end_of RunEnds.Done = Done
 end_of (RunEnds.Limit quantity) = Graph quantity
 end_of (RunEnds.File place error) = File place error
 end_of (RunEnds.Zero node block) = Zero node block
+end_of (RunEnds.Killed key losses) = Killed key losses
 end_of RunEnds.ReadFault = ReadFault
 end_of RunEnds.WriteFault = WriteFault
 end_of RunEnds.OutOfMemory = OutOfMemory

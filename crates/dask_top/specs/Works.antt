@@ -89,7 +89,7 @@ RunningOpened sources p said old new end = ThreadOpened (sources ++ p.inputs) (s
 
 -- A run of this job, read of these sources, by a cluster of threads as these words say, that ends so.
 pub record Runs (sources : List (List ℕ)) (p : Plan) (said : RunWords) (old new : View) (end : Ended) : Type 0 where
-  pub cause : ThreadCause p old new end
+  pub cause : ThreadCause p said old new end
   pub saves : ThreadSaves p old.files new.files end
   pub looked : ThreadLooked p (sources ++ p.inputs) (sources ++ openings p said) old.files new.files
   pub others : (n : List ℕ) → IsNoneOf n (names_saved p) → new.files.held n ≡ old.files.held n

@@ -1,4 +1,4 @@
-// The job that a number makes, simulated over no file.
+//! The job that a number makes, simulated over no file.
 ghost use Rattle.std.specs.Prelude.{◌≡◌, IfErr, IfOk, string_bytes};
 ghost use Rattle.command_words.specs.Words.{AreGenSettings};
 ghost use Rattle.gen_run.specs.Texts.{gen_text};

@@ -1,4 +1,4 @@
-// The line on standard error.
+//! The line on standard error.
 ghost use Rattle.std.specs.Prelude.{◌≡◌, ◌<◌, ◌++◌, ◌∷◌, codes, decimal, string_bytes, IfOk, OnOk, Some, Ok};
 ghost use Rattle.io_edge.specs.View.{OnlyErr};
 ghost use Rattle.job_run.specs.Inputs.{file_error_text};
@@ -141,6 +141,12 @@ fn zero_line(alloc: Global, node: NodeId, block: &[u64]) -> Result<String, Alloc
     Ok(line)
 }
 
+fn killed_line(alloc: Global, key: u32, losses: u32) -> Result<String, AllocError>
+    ensures { IfOk result (λ t. string_bytes t ≡ codes "dask: killed worker: key " ++ decimal key ++ codes " losses " ++ decimal losses ++ codes "\n") }
+{
+    format!(in alloc; "dask: killed worker: key {key} losses {losses}\n")
+}
+
 // Prints the line of a refusal, or where memory for it was wanted, the line that says so.
 #[tactic(auto, unfolding(crate::specs::Ends::line_of))]
 fn tell_refusal<S: Site>(site: &mut S, end: End, line: Result<String, AllocError>) -> End
@@ -182,6 +188,7 @@ pub fn tell_text<S: Site>(alloc: Global, site: &mut S, end: End) -> End
         End::OutOfMemory => note(site, b"dask: out of memory\n"),
         End::File { .. } => unreachable!(),
         End::Zero { .. } => unreachable!(),
+        End::Killed { .. } => unreachable!(),
     }
     end
 }
@@ -208,6 +215,10 @@ pub fn tell_run<S: Site>(alloc: Global, site: &mut S, job: &Job, end: Ended) -> 
         Ended::Zero { node, block } => {
             let line = zero_line(alloc, node, block.as_slice());
             tell_refusal(site, End::Zero { node, block }, line)
+        }
+        Ended::Killed { key, losses } => {
+            let line = killed_line(alloc, key, losses);
+            tell_refusal(site, End::Killed { key, losses }, line)
         }
         Ended::ReadFault => {
             note(site, b"dask: read fault\n");

@@ -1,4 +1,4 @@
-// Rows and grids of facts, which contracts read as functions.
+//! Rows and grids of facts, which contracts read as functions.
 ghost use Rattle.std.specs.Prelude.{◌≡◌, ℕ, ◌+◌, ◌<◌, ◌≤◌, length, IfOk, OnOk, OnErr, ◌++◌, ◌∷◌, ◌==◌, [], false, None, Some, cond, List, Option};
 ghost use Rattle.std.specs.List.{list_any, list_all};
 ghost use Rattle.std.specs.Option.{option_copied};

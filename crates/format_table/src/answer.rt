@@ -1,4 +1,4 @@
-// The answer to a line.
+//! The answer to a line.
 use std::alloc::{AllocError, Global};
 use std::fmt::Display;
 

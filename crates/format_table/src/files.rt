@@ -1,4 +1,4 @@
-// NumPy's files: heads, regions, and the runs of bytes that hold a region.
+//! NumPy's files: heads, regions, and the runs of bytes that hold a region.
 ghost use Rattle.std.specs.Prelude.{◌≡◌, ◌<◌, ◌≤◌, ◌^◌, length};
 ghost use Rattle.npy_codec.specs.Regions.{IsWidth};
 

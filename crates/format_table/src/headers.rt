@@ -1,4 +1,4 @@
-// The headers of NumPy's files: a text that is read, and one that is written.
+//! The headers of NumPy's files: a text that is read, and one that is written.
 use crate::answer::Answer;
 use crate::text::{numbers, unescaped};
 use nd_shape::Shape;

@@ -1,4 +1,4 @@
-// A job's text as steps, as a script and as a job.
+//! A job's text as steps, as a script and as a job.
 use crate::answer::Answer;
 use crate::text::unescaped;
 use crate::tokens::put_place_of;

@@ -1,4 +1,4 @@
-// What the grammar of jobs does with the kinds of a text's tokens.
+//! What the grammar of jobs does with the kinds of a text's tokens.
 use crate::answer::Answer;
 use crate::text::unescaped;
 use crate::tokens::all_tokens;

@@ -1,4 +1,4 @@
-// The cluster's messages in MessagePack's values.
+//! The cluster's messages in MessagePack's values.
 use crate::answer::Answer;
 use crate::text::bytes_of;
 use crate::values::put_encoded;

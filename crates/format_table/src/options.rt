@@ -1,4 +1,4 @@
-// The words of the commands `sim` and `gen`.
+//! The words of the commands `sim` and `gen`.
 use crate::answer::Answer;
 use cluster_msgs::Item;
 use command_words::{SimWords, read_gen, read_sim};
@@ -45,6 +45,9 @@ fn put_simulation(out: &mut Answer, sim: &SimWords) {
     let settings = sim.settings;
     put_run(out, settings.number, settings.workers, settings.threads);
     out.put_item(", saturation ", &settings.saturation);
+    if let Some(most) = settings.allowed {
+        out.put_item(", allowed ", &most);
+    }
     for item in sim.script.as_slice() {
         put_item(out, item);
     }

@@ -1,4 +1,4 @@
-// A small grammar of the generic reader: sums of numbers, with parentheses and signs.
+//! A small grammar of the generic reader: sums of numbers, with parentheses and signs.
 ghost use Rattle.std.specs.Prelude.{◌≡◌, true};
 ghost use Rattle.grammar.specs.Tables.{moves_end};
 

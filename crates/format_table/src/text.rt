@@ -1,4 +1,4 @@
-// The words, numbers and bytes of a case.
+//! The words, numbers and bytes of a case.
 ghost use Rattle.std.specs.Prelude.{◌<◌};
 
 use crate::answer::Answer;

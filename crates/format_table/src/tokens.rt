@@ -1,4 +1,4 @@
-// The tokens of a job's text.
+//! The tokens of a job's text.
 use crate::answer::Answer;
 use crate::text::{count, next_word, unescaped};
 use job_tokens::{Kind, Next, Token, next_token, number, place_of};

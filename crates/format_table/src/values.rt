@@ -1,4 +1,4 @@
-// MessagePack's values, and streams of frame groups.
+//! MessagePack's values, and streams of frame groups.
 use crate::answer::Answer;
 use crate::text::{bytes_of, count, next_word};
 use msgpack_frames::{FrameReader, Frames, Value, decode, encode};

@@ -1,5 +1,5 @@
 -- A simulation of a job over no file.
-use Rattle.std.specs.Prelude.{◌≡◌, ℕ, List, []}
+use Rattle.std.specs.Prelude.{◌≡◌, ℕ, List, [], None}
 use Rattle.io_edge.specs.Memory.{new_view}
 use Rattle.io_edge.specs.View.{Files}
 use Rattle.cluster_rules.specs.World.{Job}
@@ -14,9 +14,9 @@ use Rattle.sim_run.specs.Simulated.{SimulatesTo}
 abbrev pub no_files : Files
 no_files = new_view.files
 
--- the number that makes the job also draws its events; the saturation is that of a simulation whose words give none
+-- the number that makes the job also draws its events; the saturation and the losses that are allowed are those of a simulation whose words give none
 abbrev pub settings_of : GenWords → Settings
-settings_of w = record { number = w.number; workers = w.workers; threads = w.threads; saturation = 11 }
+settings_of w = record { number = w.number; workers = w.workers; threads = w.threads; saturation = 11; allowed = None }
 
 -- a simulation with these settings, in which nothing happens by a script
 pub record IsUnscripted (w : GenWords) (said : SimWords) : Type 0 where

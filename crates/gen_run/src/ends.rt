@@ -23,7 +23,8 @@ impl From<AllocError> for GenEnded {
 }
 
 /// The end that a simulated run's is, where its site is one in memory. All calls of such a site go well while there is memory, the
-/// job that a number makes passes no limit, and nothing is divided in it: so whatever else ends the run is told as want of memory.
+/// job that a number makes passes no limit, nothing is divided in it, and as many losses are allowed as there are: so whatever else
+/// ends the run is told as want of memory.
 pub fn ended(end: &SimEnded) -> GenEnded
     ensures { result ≡ end_of end.now }
 {

@@ -26,6 +26,7 @@ fn unscripted(alloc: Global, words: GenWords) -> SimWords
         workers: words.workers,
         threads: words.threads,
         saturation: 11,
+        allowed: None,
     };
     SimWords {
         job: String::new(alloc),

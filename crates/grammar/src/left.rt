@@ -1,4 +1,4 @@
-// What is left of a text, with the way back to where the step began.
+//! What is left of a text, with the way back to where the step began.
 ghost use Rattle.std.specs.Prelude.{◌≡◌, ◌∷◌, ◌++◌, [], reverse, MatchOption, OnOk, OnErr, IfOk};
 
 use crate::symbol::Symbol;

@@ -1,4 +1,4 @@
-// A reader takes one token after another, and does actions as they are complete.
+//! A reader takes one token after another, and does actions as they are complete.
 ghost use Rattle.std.specs.Prelude.{List, ◌≡◌, ◌∷◌, [], ℕ, true, Some, None, Ok, IfOk, ◌≢◌};
 ghost use Rattle.grammar.specs.Grammars.{Grammar, move, on_next, turned, step};
 ghost use Rattle.grammar.specs.declared.symbol.Symbol.{Symbol};

@@ -1,4 +1,4 @@
-// What a reader answers.
+//! What a reader answers.
 
 /// Whether the grammar has a place for the next token, or for the end.
 #[derive(Clone, Copy)]

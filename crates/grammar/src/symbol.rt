@@ -1,4 +1,4 @@
-// What rules are made of.
+//! What rules are made of.
 
 /// What stands in a rule, and what is left to be read.
 #[derive(Clone, Copy)]

@@ -1,4 +1,4 @@
-// A grammar's table, and the rules that it has for a part.
+//! A grammar's table, and the rules that it has for a part.
 ghost use Rattle.std.specs.Prelude.{◌≡◌, Option, reverse, slice_get};
 ghost use Rattle.std.specs.Option.{option_map};
 ghost use Rattle.grammar.specs.Tables.{Rows, rule_of, rule_maybe, entry_rule, grammar_of};

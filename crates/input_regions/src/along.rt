@@ -1,4 +1,4 @@
-// What elements use of an operand all along some of its axes.
+//! What elements use of an operand all along some of its axes.
 ghost use Rattle.std.specs.Prelude.{◌≡◌, ◌<◌, ◌≤◌, ◌-◌, ◌+◌, ◌^◌, ℕ, List, true, false, cond, length, slice_index, Contains, IfOk, IsTrue, OnOk, ◌↔◌};
 ghost use Rattle.nd_shape.specs.Index.{IsIn};
 ghost use Rattle.nd_grid.specs.Grid.{kept_shape};

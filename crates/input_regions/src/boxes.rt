@@ -1,4 +1,4 @@
-// Regions as the least boxes that have some indexes.
+//! Regions as the least boxes that have some indexes.
 ghost use Rattle.std.specs.Prelude.{◌≡◌, ◌≤◌, ◌<◌, ◌⊎◌, ◌^◌, ℕ, Some, length, replicate, slice_index};
 ghost use Rattle.nd_shape.specs.Region.{Box};
 ghost use Rattle.input_regions.specs.Boxes.{IsInRegion, IsLeast};

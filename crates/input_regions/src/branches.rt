@@ -1,4 +1,4 @@
-// What elements use of the operands of a concatenation.
+//! What elements use of the operands of a concatenation.
 ghost use Rattle.std.specs.Prelude.{◌≡◌, ◌<◌, ◌+◌, ◌-◌, length, slice_set};
 ghost use Rattle.array_expr.specs.Node.{shape_at};
 ghost use Rattle.input_regions.specs.Uses.{IsInBranch, IsInBranches, before_operand};

@@ -1,4 +1,4 @@
-// What the elements of a node from a first to a last index use of its operands.
+//! What the elements of a node from a first to a last index use of its operands.
 ghost use Rattle.std.specs.Prelude.{◌<◌, ◌≤◌, ◌++◌, ◌⊎◌, ℕ, List, length, take, drop, OnOk};
 ghost use Rattle.nd_shape.specs.Index.{IsIn};
 ghost use Rattle.nd_grid.specs.Grid.{kept_shape, under};

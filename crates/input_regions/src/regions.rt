@@ -1,4 +1,4 @@
-// The needed region of each node, from the last node to the first.
+//! The needed region of each node, from the last node to the first.
 ghost use Rattle.std.specs.Prelude.{◌≡◌, ◌≤◌, ◌<◌, ◌+◌, ◌-◌, List, Option, length, IfOk, OnOk};
 ghost use Rattle.nd_shape.specs.Region.{Box, IsPart};
 ghost use Rattle.array_expr.specs.Node.{IsExpression, shape_at};

@@ -1,4 +1,4 @@
-// What elements use of one operand.
+//! What elements use of one operand.
 ghost use Rattle.std.specs.Prelude.{◌≡◌, ◌<◌, ℕ, List, length, map, slice_index, OnOk};
 ghost use Rattle.nd_shape.specs.Index.{IsIn};
 ghost use Rattle.nd_shape.specs.Shape.{IsShape};

@@ -1,4 +1,4 @@
-// The trait of a disk for blocks, with what it tells and with a count of its faults.
+//! The trait of a disk for blocks, with what it tells and with a count of its faults.
 ghost use Rattle.std.specs.Prelude.{◌≡◌, IfOk, OnOk, None};
 ghost use Rattle.io_edge.specs.Cause.{HasCause};
 ghost use Rattle.io_edge.specs.Disk.{DiskView, HoldsAt, KeepsAll, KeepsOthers, ReadsAt};

@@ -1,4 +1,4 @@
-// The gate of the program itself.
+//! The gate of the program itself.
 use crate::{Gate, Point};
 
 /// The gate that does nothing.

@@ -1,4 +1,4 @@
-// The real files that are open to be read: one for each name, whoever reads it.
+//! The real files that are open to be read: one for each name, whoever reads it.
 
 use std::alloc::{AllocError, Global};
 use std::collections::BTreeMap;

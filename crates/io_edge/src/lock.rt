@@ -1,4 +1,4 @@
-// Locks of real files.
+//! Locks of real files.
 
 use std::fs::{File, TryLockError};
 

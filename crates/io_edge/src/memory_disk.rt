@@ -1,4 +1,4 @@
-// The disks of the site in memory.
+//! The disks of the site in memory.
 ghost use Rattle.std.specs.Prelude.{◌≡◌, ◌≤◌, ◌<◌, IfOk, IsErr};
 ghost use Rattle.std.specs.Option.{option_map};
 ghost use Rattle.io_edge.specs.Cause.{Rose};

@@ -1,4 +1,4 @@
-// The stores and files of the site in memory.
+//! The stores and files of the site in memory.
 ghost use Rattle.std.specs.Prelude.{◌<◌, ◌+◌, map, string_bytes};
 ghost use Rattle.io_edge.specs.Content.{Told, Reads};
 

@@ -1,4 +1,4 @@
-// Real files that are created: their bytes go beside the name, and take it once all of them are there.
+//! Real files that are created: their bytes go beside the name, and take it once all of them are there.
 
 use crate::{Failed, Lock, Lockable};
 use std::alloc::{AllocError, Global};

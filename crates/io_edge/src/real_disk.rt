@@ -1,5 +1,5 @@
-// Real disks for workers' blocks: one file for each, which is made at the first put and has no name from then on, so that
-// nothing stays of it however the program ends. They tell nothing of what they hold.
+//! Real disks for workers' blocks: one file for each, which is made at the first put and has no name from then on, so that
+//! nothing stays of it however the program ends. They tell nothing of what they hold.
 ghost use Rattle.std.specs.Prelude.{◌≡◌, IfOk, OnOk};
 ghost use Rattle.io_edge.specs.Cause.{HasCause};
 ghost use Rattle.io_edge.specs.Real.{untold_disk};

@@ -1,4 +1,4 @@
-// Where blocks lie in a file, and where it is free. Lengths and places are in bytes.
+//! Where blocks lie in a file, and where it is free. Lengths and places are in bytes.
 
 use std::alloc::{AllocError, Global};
 use std::collections::{BTreeMap, BTreeSet};

@@ -1,4 +1,4 @@
-// What a site keeps of the disks for workers' blocks, by worker.
+//! What a site keeps of the disks for workers' blocks, by worker.
 ghost use Rattle.std.specs.Prelude.{◌≡◌, ◌<◌, OnOk};
 ghost use Rattle.io_edge.specs.Spills.{book_spills, disks_at, ChangesDisks, KnowsWorker, SameDisks};
 ghost use Rattle.io_edge.specs.View.{raised, TakesPuts};

@@ -1,4 +1,4 @@
-// What reads gave. Only clauses read it: it takes no bytes, and its methods do nothing when the program runs.
+//! What reads gave. Only clauses read it: it takes no bytes, and its methods do nothing when the program runs.
 ghost use Rattle.std.specs.Prelude.{◌≡◌, ◌++◌, ◌∷◌, [], List, ℕ, map, string_bytes};
 ghost use Rattle.std.specs.Borrow.{ftrue};
 ghost use Rattle.io_edge.specs.Given.{Piece, piece_of};

@@ -1,4 +1,4 @@
-// What is done while a job is read.
+//! What is done while a job is read.
 ghost use Rattle.std.specs.Prelude.{◌≡◌, Option, slice_get};
 ghost use Rattle.job_grammar.specs.Actions.{actions};
 

@@ -1,4 +1,4 @@
-// The reader of a job's tokens.
+//! The reader of a job's tokens.
 ghost use Rattle.std.specs.Prelude.{◌≡◌, ◌≢◌, ◌∷◌, ◌++◌, [], List, true, Ok, Some, None, IfOk, OnOk};
 ghost use Rattle.grammar.specs.Grammars.{Event, took, did_all};
 ghost use Rattle.grammar.specs.Tables.{moves_end};

@@ -1,4 +1,4 @@
-// The table of the grammar of jobs, written by tools/job_rows.py.
+//! The table of the grammar of jobs, written by tools/job_rows.py.
 use grammar::{Row, Rule, Symbol, rules_on};
 
 pub(crate) static ON: [Row; 36] = [

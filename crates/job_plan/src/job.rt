@@ -1,4 +1,4 @@
-// A job, without its text.
+//! A job, without its text.
 use array_expr::{Expr, NodeId};
 
 /// A node that is saved, and the name of its file.

@@ -17,7 +17,7 @@ use Rattle.saved_files.specs.Saving.{Saving, saving_at, GivesBack, IsLeft, IsOf,
 use Rattle.job_run.specs.declared.blocks.Halt.{Halt}
 use Rattle.job_run.specs.declared.blocks.Halt.TheVariants as halts
 use Rattle.job_run.specs.declared.ends.Ended.{Ended}
-use Rattle.job_run.specs.declared.ends.Ended.TheVariants.{Done, Zero, ReadFault, WriteFault, OutOfMemory}
+use Rattle.job_run.specs.declared.ends.Ended.TheVariants.{Done, Zero, Killed, ReadFault, WriteFault, OutOfMemory}
 use Rattle.job_run.specs.Evaluating.{AreFresh, AreSameFiles, EvaluatesInputs, EvaluationCause, EvaluationCreates, EvaluationGiven, EvaluationSaves, FilesHold, FilesRight, FilesWhole, GivenOver, HaltCause, HaltGiven, LeavesAll, array_at, node_at}
 use Rattle.job_run.specs.Part.{AreLeft, AreWhole, IsNoneOf, RaisedAtMost}
 use Rattle.job_run.specs.Plan.{AreApart, Plan, Saved, name_at, names_saved}
@@ -59,6 +59,7 @@ part_told (Untold size) final part = tt
 creates : (names : List (List ℕ)) (old new : List ℕ → ℕ) (end : Ended) → new ≡ raised_by names old → EvaluationCreates names old new end
 creates names old new Done is = is
 creates names old new (Zero node block) is = is
+creates names old new (Killed key losses) is = is
 creates names old new end is = raised_at_most names old new is
 
 -- ## The site, step by step

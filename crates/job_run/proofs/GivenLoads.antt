@@ -10,7 +10,7 @@ use Rattle.npy_codec.specs.declared.head.Head.{Head}
 use Rattle.npy_codec.specs.declared.error.NpyError.{NpyError}
 use Rattle.npy_codec.specs.Files.{HasHead, IsRefusedAs}
 use Rattle.job_run.specs.declared.ends.Ended.{Ended}
-use Rattle.job_run.specs.declared.ends.Ended.TheVariants.{Done, Limit, File, Zero, ReadFault, WriteFault, OutOfMemory}
+use Rattle.job_run.specs.declared.ends.Ended.TheVariants.{Done, Limit, File, Zero, Killed, ReadFault, WriteFault, OutOfMemory}
 use Rattle.job_run.specs.declared.ends.FileError.{FileError}
 use Rattle.job_run.specs.declared.ends.FileError.TheVariants.{Npy, Shape}
 use Rattle.job_run.specs.Inputs.{FirstRefusal, FitInputs, FitsShape, HoldsArray, IsOfFile, RefusesFile}
@@ -75,6 +75,7 @@ end_given names shapes old mid new k shape file before after OutOfMemory h is en
 end_given names shapes old mid new k shape file before after Done h is ends fit here = tt
 end_given names shapes old mid new k shape file before after (Limit quantity) h is ends fit here = tt
 end_given names shapes old mid new k shape file before after (Zero node block) h is ends fit here = tt
+end_given names shapes old mid new k shape file before after (Killed key losses) h is ends fit here = tt
 end_given names shapes old mid new k shape file before after WriteFault h is ends fit here = tt
 
 -- ## The inputs of a job

@@ -13,7 +13,7 @@ use Rattle.array_expr.specs.Elem.{is_input}
 use Rattle.npy_codec.specs.declared.head.Head.{Head}
 use Rattle.npy_codec.specs.Regions.{no_head}
 use Rattle.job_run.specs.declared.ends.Ended.{Ended}
-use Rattle.job_run.specs.declared.ends.Ended.TheVariants.{Done, Limit, File, Zero, ReadFault, WriteFault, OutOfMemory}
+use Rattle.job_run.specs.declared.ends.Ended.TheVariants.{Done, Limit, File, Zero, Killed, ReadFault, WriteFault, OutOfMemory}
 use Rattle.job_run.specs.declared.ends.FileError.{FileError}
 use Rattle.job_run.specs.Inputs.{FirstRefusal, FitInputs, FitsShape, HoldsArray, InputsFit, RefusesFile, told_all}
 use Rattle.job_run.specs.Loading.{AreHeads, HeadEnds, IsHeadFor, IsRefusedAt, LoadEnds, LoadGiven}
@@ -105,6 +105,7 @@ head_ends shapes files now heads k shape first before after OutOfMemory n are ke
 head_ends shapes files now heads k shape first before after Done n are kept ends = absurd ends
 head_ends shapes files now heads k shape first before after (Limit quantity) n are kept ends = absurd ends
 head_ends shapes files now heads k shape first before after (Zero node block) n are kept ends = absurd ends
+head_ends shapes files now heads k shape first before after (Killed key losses) n are kept ends = absurd ends
 head_ends shapes files now heads k shape first before after WriteFault n are kept ends = absurd ends
 
 -- ## The inputs of a job
@@ -143,6 +144,7 @@ load_cause p old new mid files now names fresh store between OutOfMemory o risen
 load_cause p old new mid files now names fresh store between Done o risen back given ends = absurd ends
 load_cause p old new mid files now names fresh store between (Limit quantity) o risen back given ends = absurd ends
 load_cause p old new mid files now names fresh store between (Zero node block) o risen back given ends = absurd ends
+load_cause p old new mid files now names fresh store between (Killed key losses) o risen back given ends = absurd ends
 load_cause p old new mid files now names fresh store between WriteFault o risen back given ends = absurd ends
 
 fits_file : (shape : List ℕ) (file : Content) (head : Head) → IsHeadFor shape file head → OnTold file (λ bytes. (array : Array) × HoldsArray shape bytes array)

@@ -11,7 +11,7 @@ use Rattle.plain_eval.specs.Eval.{held_in}
 use Rattle.block_lowering.specs.Jobs.{TellsFeed}
 use Rattle.saved_files.specs.Saving.{IsLeft}
 use Rattle.job_run.specs.declared.ends.Ended.{Ended}
-use Rattle.job_run.specs.declared.ends.Ended.TheVariants.{Done, Limit, File, Zero, ReadFault, WriteFault, OutOfMemory}
+use Rattle.job_run.specs.declared.ends.Ended.TheVariants.{Done, Limit, File, Zero, Killed, ReadFault, WriteFault, OutOfMemory}
 use Rattle.job_run.specs.Evaluating.{EvaluatesInputs}
 use Rattle.job_run.specs.Inputs.{HoldArrays, InputsFit, told_all}
 use Rattle.job_run.specs.Lowering.{LowerCause}
@@ -37,6 +37,7 @@ always p files Q f = turn (told_all files.held p.inputs)
 abbrev IsEarly : Ended → Type 0
 IsEarly Done = ⊥
 IsEarly (Zero node block) = ⊥
+IsEarly (Killed key losses) = ⊥
 IsEarly WriteFault = ⊥
 IsEarly end = Unit {0}
 
@@ -48,6 +49,7 @@ early_saves p old new Done is same = absurd is
 early_saves p old new (Limit quantity) is same = same
 early_saves p old new (File place error) is same = same
 early_saves p old new (Zero node block) is same = absurd is
+early_saves p old new (Killed key losses) is same = absurd is
 early_saves p old new ReadFault is same = left_alone p old new same
 early_saves p old new WriteFault is same = absurd is
 early_saves p old new OutOfMemory is same = left_alone p old new same
@@ -57,6 +59,7 @@ early_created names old new Done is same = absurd is
 early_created names old new (Limit quantity) is same = same
 early_created names old new (File place error) is same = same
 early_created names old new (Zero node block) is same = absurd is
+early_created names old new (Killed key losses) is same = absurd is
 early_created names old new ReadFault is same = none_raised names old new same
 early_created names old new WriteFault is same = absurd is
 early_created names old new OutOfMemory is same = none_raised names old new same
@@ -66,6 +69,7 @@ early_prints p old new Done is same = absurd is
 early_prints p old new (Limit quantity) is same = same
 early_prints p old new (File place error) is same = same
 early_prints p old new (Zero node block) is same = absurd is
+early_prints p old new (Killed key losses) is same = absurd is
 early_prints p old new ReadFault is same = same
 early_prints p old new WriteFault is same = absurd is
 early_prints p old new OutOfMemory is same = same
@@ -109,6 +113,7 @@ lowering_runs p v Done cause = absurd cause
 lowering_runs p v (Limit quantity) cause = early_runs p v v (Limit quantity) tt cause (opens_nothing p.inputs v.files) (reads_nothing v) refl
 lowering_runs p v (File place error) cause = absurd cause
 lowering_runs p v (Zero node block) cause = absurd cause
+lowering_runs p v (Killed key losses) cause = absurd cause
 lowering_runs p v ReadFault cause = absurd cause
 lowering_runs p v WriteFault cause = absurd cause
 lowering_runs p v OutOfMemory cause = memory_runs p v
@@ -119,6 +124,7 @@ reading_runs p old new Done small cause opens only = absurd cause
 reading_runs p old new (Limit quantity) small cause opens only = absurd cause
 reading_runs p old new (File place error) small cause opens only = early_runs p old new (File place error) tt (small, cause.0, cause.1) opens only (opened_most p.inputs old.files new.files opens)
 reading_runs p old new (Zero node block) small cause opens only = absurd cause
+reading_runs p old new (Killed key losses) small cause opens only = absurd cause
 reading_runs p old new ReadFault small cause opens only = early_runs p old new ReadFault tt (small, cause) opens only (opened_most p.inputs old.files new.files opens)
 reading_runs p old new WriteFault small cause opens only = absurd cause
 reading_runs p old new OutOfMemory small cause opens only = early_runs p old new OutOfMemory tt tt opens only (opened_most p.inputs old.files new.files opens)
@@ -183,6 +189,7 @@ pub stopped_runs : (p : Plan) (old mid new : View) (files : List Content) (heads
 stopped_runs p old mid new files heads Done a e not = absurd (not refl)
 stopped_runs p old mid new files heads (Limit quantity) a e not = absurd e.cause
 stopped_runs p old mid new files heads (File place error) a e not = absurd e.cause
+stopped_runs p old mid new files heads (Killed key losses) a e not = absurd e.cause
 stopped_runs p old mid new files heads (Zero node block) a e not =
     evaluated_runs p old mid new files heads (Zero node block) a e (
       a.small,

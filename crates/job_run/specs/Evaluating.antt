@@ -19,7 +19,7 @@ use Rattle.lowering_laws.specs.Whole.{LawOfOrder}
 use Rattle.saved_files.specs.Filling.{IsFilling, IsPart, HoldsBox, file_of as bytes_of}
 use Rattle.saved_files.specs.Saving.{Saving, saving_at, IsFresh, IsOf, IsLeft}
 use Rattle.job_run.specs.declared.ends.Ended.{Ended}
-use Rattle.job_run.specs.declared.ends.Ended.TheVariants.{Done, Zero, ReadFault, WriteFault, OutOfMemory}
+use Rattle.job_run.specs.declared.ends.Ended.TheVariants.{Done, Zero, Killed, ReadFault, WriteFault, OutOfMemory}
 use Rattle.job_run.specs.declared.blocks.Halt.{Halt}
 use Rattle.job_run.specs.declared.blocks.Halt.TheVariants as halts
 use Rattle.job_run.specs.Part.{AreWhole, AreLeft, IsNoneOf, RaisedAtMost}
@@ -164,6 +164,7 @@ EvaluationSaves p named told old new end = Unit {0}
 abbrev pub EvaluationCreates : List (List ℕ) → (List ℕ → ℕ) → (List ℕ → ℕ) → Ended → Type 0
 EvaluationCreates names old new Done = new ≡ raised_by names old
 EvaluationCreates names old new (Zero node block) = new ≡ raised_by names old
+EvaluationCreates names old new (Killed key losses) = new ≡ raised_by names old
 EvaluationCreates names old new end = RaisedAtMost names old new
 
 pub record EvaluatesInputs (p : Plan) (named : Named) (told : Type 0) (old new : View) (end : Ended) : Type 0 where

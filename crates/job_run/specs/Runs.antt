@@ -7,7 +7,7 @@ use Rattle.io_edge.specs.View.{View, Files, raised_by}
 use Rattle.plain_eval.specs.Eval.{held_in}
 use Rattle.lowering_laws.specs.Lowered.{limit_of}
 use Rattle.job_run.specs.declared.ends.Ended.{Ended}
-use Rattle.job_run.specs.declared.ends.Ended.TheVariants.{Done, Limit, File, Zero, ReadFault, WriteFault, OutOfMemory}
+use Rattle.job_run.specs.declared.ends.Ended.TheVariants.{Done, Limit, File, Zero, Killed, ReadFault, WriteFault, OutOfMemory}
 use Rattle.job_run.specs.declared.ends.FileError.{FileError}
 use Rattle.job_run.specs.Inputs.{FirstRefusal, FitInputs, InputsFit, InputRefused}
 use Rattle.job_run.specs.Part.{AreWhole, AreLeft, IsNoneOf, RaisedAtMost}
@@ -45,12 +45,13 @@ IsRefusedGiven p old new place error = Gives old.gave new.gave (λ holds. FirstR
 abbrev pub IsFitGiven : Plan → View → View → Type 0
 IsFitGiven p old new = Gives old.gave new.gave (λ holds. FitInputs p (map holds p.inputs))
 
--- why a run ends so
+-- why a run ends so. No key is killed where there are no workers
 abbrev pub Cause : Plan → View → View → Ended → Type 0
 Cause p old new Done = IsSmall p × HasValues p old.files × OfGiven p old new (MeetsNone p)
 Cause p old new (Limit quantity) = limit_of p.nodes ≡ Some quantity
 Cause p old new (File place error) = IsSmall p × InputRefused p old.files place error × IsRefusedGiven p old new place error
 Cause p old new (Zero node block) = IsSmall p × HasZero p old.files node block × OfGiven p old new (λ named. MeetsZero p named node block)
+Cause p old new (Killed key losses) = ⊥
 Cause p old new ReadFault = IsSmall p × Rose old.read_faults new.read_faults
 Cause p old new WriteFault = IsSmall p × InputsFit p old.files × WritesFail p old new
 Cause p old new OutOfMemory = Unit {0}
@@ -82,6 +83,7 @@ abbrev pub Opened : List (List ℕ) → (List ℕ → ℕ) → (List ℕ → ℕ
 Opened names old new Done = new ≡ raised_by names old
 Opened names old new (Limit quantity) = new ≡ old
 Opened names old new (Zero node block) = new ≡ raised_by names old
+Opened names old new (Killed key losses) = new ≡ raised_by names old
 Opened names old new end = RaisedAtMost names old new
 
 -- the same of creations, of which there are none before the inputs are accepted
@@ -90,6 +92,7 @@ Created names old new Done = new ≡ raised_by names old
 Created names old new (Limit quantity) = new ≡ old
 Created names old new (File place error) = new ≡ old
 Created names old new (Zero node block) = new ≡ raised_by names old
+Created names old new (Killed key losses) = new ≡ raised_by names old
 Created names old new end = RaisedAtMost names old new
 
 -- the lines on standard output

@@ -1,4 +1,4 @@
-// The blocks of a job, made key by key, and written where they are saved.
+//! The blocks of a job, made key by key, and written where they are saved.
 ghost use Rattle.std.specs.Prelude.{◌≡◌, ◌<◌, ◌+◌, ◌↔◌, ℕ, List, [], map, length, Some, IfOk, IfErr, OnOk, OnErr, IsErrOf};
 ghost use Rattle.std.specs.Arc.{arc_value};
 ghost use Rattle.array_expr.specs.Node.{shape_at};

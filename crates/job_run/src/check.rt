@@ -1,4 +1,4 @@
-// Whether a job can be run.
+//! Whether a job can be run.
 ghost use Rattle.std.specs.Prelude.{◌≡◌, ◌<◌, ◌+◌, ◌^◌, ℕ, length, map, cond, slice_index_or, true, false, bytes_eq};
 ghost use Rattle.array_expr.specs.Elem.{is_input};
 ghost use Rattle.job_run.specs.Jobs.{plan_of, saved_of};

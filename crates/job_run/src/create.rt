@@ -1,4 +1,4 @@
-// The files of a job's saves.
+//! The files of a job's saves.
 ghost use Rattle.std.specs.Prelude.{◌≡◌, ℕ, List, [], length, IfOk, OnOk, OnErr};
 ghost use Rattle.io_edge.specs.Cause.{HasOpenCause};
 ghost use Rattle.io_edge.specs.View.{OnlyWrites, raised_by};

@@ -1,4 +1,4 @@
-// How a run of a job ends.
+//! How a run of a job ends.
 ghost use Rattle.std.specs.Prelude.{◌≡◌};
 ghost use Rattle.job_run.specs.declared.ends.Ended.TheVariants.{OutOfMemory};
 
@@ -27,6 +27,8 @@ pub enum Ended {
     File { input: usize, error: FileError },
     /// A divisor in this block of this node is zero.
     Zero { node: NodeId, block: Dims },
+    /// A key was killed: its worker left so often while the key was assigned to it. Only runs by a cluster end so.
+    Killed { key: u32, losses: u32 },
     /// An opening or a read failed, and the site's count of them rose.
     ReadFault,
     /// A creation, a write or a print failed, and the site's count of them rose.

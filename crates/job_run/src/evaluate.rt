@@ -1,4 +1,4 @@
-// The evaluation of a job over its open inputs.
+//! The evaluation of a job over its open inputs.
 ghost use Rattle.std.specs.Prelude.{◌≡◌, length, map, IfOk};
 ghost use Rattle.io_edge.specs.Given.{OnGiven};
 ghost use Rattle.job_run.specs.Inputs.{FitInputs};

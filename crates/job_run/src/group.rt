@@ -1,4 +1,4 @@
-// Saved blocks that wait for those beside them, so that a row of all of them is written at once.
+//! Saved blocks that wait for those beside them, so that a row of all of them is written at once.
 ghost use Rattle.std.specs.Prelude.{◌≡◌, ◌<◌, ◌∷◌, ◌++◌, ℕ, [], List, length, OnOk, OnErr, IsErrOf, IsTrue};
 ghost use Rattle.std.specs.Arc.{arc_value};
 ghost use Rattle.array_expr.specs.Node.{shape_at};

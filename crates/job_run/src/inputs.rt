@@ -1,4 +1,4 @@
-// The inputs of a job, opened, and their heads read.
+//! The inputs of a job, opened, and their heads read.
 ghost use Rattle.std.specs.Prelude.{◌≡◌, ◌≤◌, ◌++◌, [], ◌∷◌, length, cond, map, IfOk, IfErr, OnOk};
 ghost use Rattle.io_edge.specs.Given.{OnGiven};
 ghost use Rattle.io_edge.specs.View.{Opens, OnlyReads, Shows, raised_by};

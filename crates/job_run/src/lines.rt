@@ -1,4 +1,4 @@
-// Lines that tell of a job, and the index of a block in them.
+//! Lines that tell of a job, and the index of a block in them.
 ghost use Rattle.std.specs.Prelude.{◌≡◌, ◌<◌, ◌++◌, length, IfOk, OnOk, string_bytes};
 ghost use Rattle.job_run.specs.Jobs.{plan_of, saved_of};
 ghost use Rattle.job_run.specs.Plan.{IsRunnable};

@@ -1,4 +1,4 @@
-// Reads of the inputs' heads from an open store.
+//! Reads of the inputs' heads from an open store.
 ghost use Rattle.std.specs.Prelude.{◌≡◌, ◌≤◌, ◌<◌, ◌^◌, length, IfOk, IfErr, OnOk, IsTrue, ◌↔◌};
 ghost use Rattle.io_edge.specs.Content.{file_at};
 ghost use Rattle.io_edge.specs.Given.{Gives, GivesOf};

@@ -1,4 +1,4 @@
-// The graph of a job.
+//! The graph of a job.
 ghost use Rattle.std.specs.Prelude.{◌≡◌, map, IfOk, IfErr};
 ghost use Rattle.job_run.specs.Jobs.{plan_of, saved_of};
 ghost use Rattle.job_run.specs.Lowering.{IsGraphOf, LowerCause};

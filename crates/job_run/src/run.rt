@@ -1,4 +1,4 @@
-// A run of a job.
+//! A run of a job.
 ghost use Rattle.job_run.specs.Jobs.{plan_of};
 ghost use Rattle.job_run.specs.Plan.{IsRunnable};
 ghost use Rattle.job_run.specs.Runs.{RunsPlan};

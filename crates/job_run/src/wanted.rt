@@ -1,4 +1,4 @@
-// What the client of a cluster wants of a job, and how a run ends where a key of it failed.
+//! What the client of a cluster wants of a job, and how a run ends where a key of it failed.
 ghost use Rattle.std.specs.Prelude.{◌≡◌, ◌++◌, slice_index_or, None, IfOk, OnOk};
 ghost use Rattle.std.specs.List.{flat_map};
 ghost use Rattle.job_run.specs.Jobs.{plan_of};

@@ -1,4 +1,4 @@
-// The lists and numbers of a statement or a call, while they are read.
+//! The lists and numbers of a statement or a call, while they are read.
 ghost use Rattle.std.specs.Prelude.{◌≡◌, ◌<◌, ◌^◌, ◌∷◌, ◌++◌, [], None, Some, OnOk};
 ghost use Rattle.nd_shape.specs.declared.chunk.ChunkSpec.TheVariants.{List as ListedChunks};
 ghost use Rattle.job_script.specs.Arguments.{nothing_given, bound_at, range_of, given_after, given_with};

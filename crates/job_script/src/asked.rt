@@ -1,4 +1,4 @@
-// What is asked for, and why a text is refused.
+//! What is asked for, and why a text is refused.
 ghost use Rattle.std.specs.Prelude.{◌≡◌};
 ghost use Rattle.job_script.specs.declared.asked.Fault.TheVariants.{OutOfMemory};
 

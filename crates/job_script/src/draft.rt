@@ -1,4 +1,4 @@
-// A text's steps, done one after another.
+//! A text's steps, done one after another.
 ghost use Rattle.std.specs.Prelude.{◌≡◌, ◌<◌, ◌≤◌, ◌^◌, not, nat_eq, length, Ok, OnOk, IfOk, IfErr};
 ghost use Rattle.job_script.specs.declared.asked.Fault.TheVariants.{Refused};
 ghost use Rattle.job_script.specs.declared.asked.Why.TheVariants.{Number};

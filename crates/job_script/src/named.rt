@@ -1,4 +1,4 @@
-// Names that stand for nodes, and files of nodes.
+//! Names that stand for nodes, and files of nodes.
 ghost use Rattle.std.specs.Prelude.{◌≡◌};
 ghost use Rattle.std.specs.Str.{bytes_eq};
 ghost use Rattle.job_script.specs.Names.{node_called};

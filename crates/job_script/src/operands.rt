@@ -1,4 +1,4 @@
-// Operands that wait for their operation, and operations that wait for their operands.
+//! Operands that wait for their operation, and operations that wait for their operands.
 ghost use Rattle.std.specs.Prelude.{◌≡◌, ◌+◌, ◌-◌, ◌<◌, ◌^◌, ◌∷◌, ◌++◌, [], take, drop, length, IfOk, OnOk};
 ghost use Rattle.job_script.specs.Operands.{nothing_waits, without_last, top_node, top_mark, top_list, with_node, without_node, without_mark};
 

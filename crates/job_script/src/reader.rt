@@ -1,4 +1,4 @@
-// The reader of a text's script.
+//! The reader of a text's script.
 ghost use Rattle.std.specs.Prelude.{◌≡◌, None, IfOk, IfErr, OnOk};
 ghost use Rattle.job_script.specs.Scripts.{refusal_at, unexpected, run, IsScript};
 ghost use Rattle.job_script.specs.Follows.{StoppedAs};

@@ -1,4 +1,4 @@
-// Statements, names and files.
+//! Statements, names and files.
 ghost use Rattle.std.specs.Prelude.{◌≡◌, Ok, OnOk, IfErr, not, nat_eq, length};
 ghost use Rattle.job_script.specs.Names.{node_called};
 ghost use Rattle.job_script.specs.Scopes.{nothing_known, is_there, begun, declared, with_file, defined, with_input, saved};

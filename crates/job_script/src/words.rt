@@ -1,4 +1,4 @@
-// What tokens say.
+//! What tokens say.
 ghost use Rattle.std.specs.Prelude.{◌≡◌, ◌≤◌, ◌^◌};
 ghost use Rattle.job_script.specs.Words.{bytes_of, number_at, file_at, binary_of, fold_of, negative};
 

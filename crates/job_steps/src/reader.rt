@@ -1,4 +1,4 @@
-// The reader of a text's steps.
+//! The reader of a text's steps.
 ghost use Rattle.std.specs.Prelude.{◌≡◌, ◌≤◌, ◌<◌, ◌+◌, ◌^◌, ◌∷◌, ◌++◌, [], ℕ, List, true, false, nat_lt, length, Ok, OnOk, IfOk};
 ghost use Rattle.job_tokens.specs.declared.token.Next.TheVariants as NextVariants;
 ghost use Rattle.job_tokens.specs.Texts.{next_at};

@@ -1,4 +1,4 @@
-// Steps, and how a text ends.
+//! Steps, and how a text ends.
 ghost use Rattle.std.specs.Prelude.{◌≡◌};
 
 use job_grammar::Action;

@@ -1,4 +1,4 @@
-// Adds the operations that a text asks for to an expression.
+//! Adds the operations that a text asks for to an expression.
 ghost use Rattle.std.specs.Prelude.{◌≡◌, ◌∷◌, ◌++◌, [], length, IfOk, IfErr, OnOk, OnErr};
 ghost use Rattle.array_expr.specs.Node.{Adds};
 ghost use Rattle.job_text.specs.Nodes.{op_of, RefusesAsked};

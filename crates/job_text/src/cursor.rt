@@ -1,4 +1,4 @@
-// Lines and columns, one after another: each is counted on from the last one.
+//! Lines and columns, one after another: each is counted on from the last one.
 ghost use Rattle.std.specs.Prelude.{◌≡◌, ◌<◌, ◌+◌, ◌-◌, ◌≤◌, length, take};
 ghost use Rattle.std.specs.List.{suffix_len};
 ghost use Rattle.job_tokens.specs.Places.{is_no_newline};

@@ -1,4 +1,4 @@
-// Why a text is no job.
+//! Why a text is no job.
 ghost use Rattle.std.specs.Prelude.{◌≡◌};
 ghost use Rattle.job_text.specs.Texts.{kind_of_why, kind_of_node, limit_of};
 

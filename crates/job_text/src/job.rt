@@ -1,4 +1,4 @@
-// Jobs with their places in a text.
+//! Jobs with their places in a text.
 ghost use Rattle.std.specs.Prelude.{◌≡◌, All, map, IfOk, string_bytes};
 ghost use Rattle.job_text.specs.Jobs.{FilesFit};
 ghost use Rattle.job_text.specs.Names.{IsFileName};

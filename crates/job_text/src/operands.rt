@@ -1,4 +1,4 @@
-// The operations that are asked for, as operations over the nodes before them.
+//! The operations that are asked for, as operations over the nodes before them.
 ghost use Rattle.std.specs.Prelude.{◌≡◌, ◌<◌, length, IfOk};
 ghost use Rattle.job_script.specs.Earlier.{NamesEarlier};
 ghost use Rattle.array_expr.specs.Node.{NamesNodes};

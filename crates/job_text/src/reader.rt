@@ -1,4 +1,4 @@
-// The reader of jobs.
+//! The reader of jobs.
 ghost use Rattle.std.specs.Prelude.{◌≡◌, IfOk, IfErr};
 ghost use Rattle.job_text.specs.Texts.{kind_of_why};
 ghost use Rattle.job_text.specs.Jobs.{IsShort, StandsAt, IsJob, FilesFit, IsRefused};

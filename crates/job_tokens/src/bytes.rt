@@ -1,4 +1,4 @@
-// The bytes of words, numbers and file names.
+//! The bytes of words, numbers and file names.
 ghost use Rattle.std.specs.Prelude.{◌≡◌, ◌*◌, ◌+◌, ◌-◌, ◌≤◌, length};
 ghost use Rattle.std.specs.List.{prefix_len};
 ghost use Rattle.job_tokens.specs.Bytes.{is_digit, is_letter, is_word, is_file_byte, capped, decimal};

@@ -1,4 +1,4 @@
-// The kinds of tokens, and the reserved words.
+//! The kinds of tokens, and the reserved words.
 ghost use Rattle.std.specs.Prelude.{◌≡◌, find};
 ghost use Rattle.std.specs.Str.{bytes_eq};
 ghost use Rattle.job_tokens.specs.Words.{spelling, word_kind, kind_number};

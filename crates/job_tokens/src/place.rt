@@ -1,4 +1,4 @@
-// Lines and columns.
+//! Lines and columns.
 ghost use Rattle.std.specs.Prelude.{◌≡◌, ◌==◌, ◌≤◌, ◌<◌, ◌^◌, length};
 ghost use Rattle.std.specs.List.{suffix_len};
 ghost use Rattle.job_tokens.specs.Places.{is_no_newline, line_of, column_of};

@@ -1,4 +1,4 @@
-// The next token of a text.
+//! The next token of a text.
 ghost use Rattle.std.specs.Prelude.{◌≡◌, ◌≤◌, ◌<◌, ◌+◌, Option, Some, None, length, false, IfSome};
 ghost use Rattle.job_tokens.specs.Fronts.{single, file_front, pair_front, front, skipped, blank_step};
 ghost use Rattle.job_tokens.specs.Texts.{next_at, IsWithin};

@@ -17,7 +17,7 @@ use Rattle.cluster_msgs.specs.declared.events.Asker.{Asker}
 use Rattle.cluster_msgs.specs.declared.events.Asker.TheVariants.{Worker, Client}
 use Rattle.cluster_msgs.specs.declared.events.Entry.{Entry}
 use Rattle.cluster_msgs.specs.declared.events.Event.{Event}
-use Rattle.cluster_msgs.specs.declared.events.Event.TheVariants.{Want, Release, Join, Lose, SeeLoss, Suspect, DeliverDown, DeliverUp, DeliverToClient, DeliverFromClient, Start, Finish, SendGather, ServeGather, ArriveGather, FailGather, Balance, Evict, Spill, LoseSpilled}
+use Rattle.cluster_msgs.specs.declared.events.Event.TheVariants.{Want, Release, Join, Lose, SeeLoss, Suspect, DeliverDown, DeliverUp, DeliverToClient, DeliverFromClient, Start, Finish, SendGather, ServeGather, ArriveGather, FailGather, Balance, Evict, Replicate, Spill, LoseSpilled}
 use Rattle.cluster_rules.specs.Functions.{put}
 use Rattle.cluster_rules.specs.Client.{ClientFacts, client_step, new_client}
 use Rattle.cluster_rules.specs.Enabled.{enabled, message, message_at, front}
@@ -133,6 +133,7 @@ module _ (c : ℕ) where
   moves j w (FailGather (Client d) p) on = failed w d p (c == d) refl
   moves j w Balance on = refl
   moves j w Evict on = refl
+  moves j w (Replicate k i) on = refl
   moves j w (Spill i k) on = refl
   moves j w (LoseSpilled i k) on = refl
 

@@ -9,7 +9,7 @@ use Rattle.cluster_msgs.proofs.ShapeLemmas.{earlier}
 use Rattle.cluster_msgs.proofs.ValueLemmas.{bad-fault, cone-below, faulty-operation}
 use Rattle.cluster_msgs.specs.declared.events.Entry.{Entry}
 use Rattle.cluster_msgs.specs.declared.events.Event.{Event}
-use Rattle.cluster_msgs.specs.declared.events.Event.TheVariants.{Want, Release, Join, Lose, SeeLoss, Suspect, DeliverDown, DeliverUp, DeliverToClient, DeliverFromClient, Start, Finish, SendGather, ServeGather, ArriveGather, FailGather, Balance, Evict, Spill, LoseSpilled}
+use Rattle.cluster_msgs.specs.declared.events.Event.TheVariants.{Want, Release, Join, Lose, SeeLoss, Suspect, DeliverDown, DeliverUp, DeliverToClient, DeliverFromClient, Start, Finish, SendGather, ServeGather, ArriveGather, FailGather, Balance, Evict, Replicate, Spill, LoseSpilled}
 use Rattle.cluster_msgs.specs.declared.cores.WorkerEvent.TheVariants.{Done}
 use Rattle.cluster_rules.specs.Enabled.{enabled, message}
 use Rattle.cluster_rules.specs.Inside.{IsInsideWorld}
@@ -47,6 +47,7 @@ module _ (j i : Job) (setting : i.setting ≡ j.setting) (low : IsShape j.settin
   same_step w (FailGather a p) on h = refl
   same_step w Balance on h = refl
   same_step w Evict on h = refl
+  same_step w (Replicate k v) on h = refl
   same_step w (Spill v k) on h = refl
   same_step w (LoseSpilled v k) on h = refl
 

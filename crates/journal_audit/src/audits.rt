@@ -81,8 +81,9 @@ fn said(
     }
 }
 
-/// Whether a journal is a legal list of the events of a job's world, with so many clients and this saturation: each event is enabled in the world
-/// that the earlier ones leave, and the message that was kept is the one that it takes there. Else it tells the first entry of which that isn't so.
+/// Whether a journal is a legal list of the events of a job's world, with so many clients, this saturation and what losses are allowed: each event
+/// is enabled in the world that the earlier ones leave, and the message that was kept is the one that it takes there. Else it tells the first entry
+/// of which that isn't so.
 ///
 /// Where the feed tells what it holds, each operation that ends does so as the job says.
 ///
@@ -95,16 +96,17 @@ pub fn audit<J: JobSpec>(
     feed: J::Feed,
     clients: u32,
     saturation: u32,
+    allowed: Option<u32>,
     journal: &Journal,
 ) -> Result<Audit, StepError>
     requires clients { clients ≤ 16 }
     requires saturation { (1 ≤ saturation) × (saturation ≤ 1000) }
     requires feed { J.feed_fits job feed }
     ensures audit { IfOk result (λ a. J.feed_tells job feed →
-        IsAuditOf (job_of (setting_of (J.graph job) clients saturation) (J.operation job)) journal.now a) }
+        IsAuditOf (job_of (setting_of (J.graph job) clients saturation allowed) (J.operation job)) journal.now a) }
     ensures fails { FailsBy J.fault_count feed result }
 {
-    let Ok(mut world) = World::new(alloc, job, feed, clients, saturation) else {
+    let Ok(mut world) = World::new(alloc, job, feed, clients, saturation, allowed) else {
         return Err(StepError::OutOfMemory);
     };
     let wrong = first_wrong(&mut world, journal.as_slice());

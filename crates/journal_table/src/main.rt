@@ -3,8 +3,9 @@
 //! It stands on `journal_audit` and the crates of its types, and nothing stands above it. It carries no promise of its own. A
 //! line is `merge HISTORIES`, which prints the entries of the journal and their number, `report HISTORIES`, which prints
 //! the journal's report for a graph of three keys, or `audit HISTORIES`, which prints what the audit says of the journal over
-//! this graph, with one client. `HISTORIES` is `none` or histories with `|` between two. A history is words
-//! with blanks between them, each an entry: `STAMP:KIND:NUMBER`, or `!STAMP:KIND:NUMBER` for the one that found no room.
+//! this graph, with one client; in `audit/N HISTORIES` a key's worker may leave N times. `HISTORIES` is `none` or histories
+//! with `|` between two. A history is words with blanks between them, each an entry: `STAMP:KIND:NUMBER`, or
+//! `!STAMP:KIND:NUMBER` for the one that found no room.
 #![tactic(auto)]
 
 mod printed;
@@ -61,12 +62,17 @@ fn print_made<R: Print>(rt: &R, alloc: Global, made: &Report) -> io::Result<()> 
     print!(rt; "{text}")
 }
 
-fn print_audit<R: Print>(rt: &R, alloc: Global, case: &str) -> io::Result<()> {
+fn print_audit<R: Print>(
+    rt: &R,
+    alloc: Global,
+    allowed: Option<u32>,
+    case: &str,
+) -> io::Result<()> {
     let Ok(shape) = GraphShape::from_rows(alloc, rows(alloc)?) else {
         return println!(rt; "no graph");
     };
     let journal = merge(alloc, told::histories(alloc, case)?)?;
-    match audit(alloc, ShapeJob::new(shape), (), 1, 11, &journal) {
+    match audit(alloc, ShapeJob::new(shape), (), 1, 11, allowed, &journal) {
         Ok(Audit::Agrees(made)) => {
             println!(rt; "agrees")?;
             print_made(rt, alloc, &made)
@@ -79,10 +85,13 @@ fn print_audit<R: Print>(rt: &R, alloc: Global, case: &str) -> io::Result<()> {
 fn play<R: Print>(rt: &R, alloc: Global, line: &str) -> io::Result<()> {
     println!(rt; "{line}")?;
     let (word, case) = line.split_once(' ').unwrap_or((line, ""));
+    if let Some(most) = word.strip_prefix("audit/") {
+        return print_audit(rt, alloc, most.parse::<u32>().ok(), case);
+    }
     match word {
         "merge" => print_merged(rt, alloc, case),
         "report" => print_report(rt, alloc, case),
-        "audit" => print_audit(rt, alloc, case),
+        "audit" => print_audit(rt, alloc, None, case),
         _ => println!(rt; "no such line"),
     }
 }

@@ -34,6 +34,7 @@ fn kind(entry: &Entry) -> (&'static str, u32) {
         Event::SeeLoss { worker } => ("loss", *worker),
         Event::Suspect { worker } => ("suspect", *worker),
         Event::DeliverUp { worker } => (message_name(&entry.message), *worker),
+        Event::Replicate { worker, .. } => ("copy", *worker),
         _ => ("balance", 0),
     }
 }

@@ -70,6 +70,10 @@ fn of_client(alloc: Global, kind: &str, number: u32) -> Result<Option<Message>, 
             key: 0,
             holders: at_worker(alloc, number as u64)?,
         }),
+        "failed" => Message::ToClient(ToClient::ClientTaskErred {
+            key: 0,
+            blame: number,
+        }),
         "serve" => Message::Peer(Peer::GetData {
             ask: number as u64,
             keys: only(alloc, 0)?,
@@ -106,7 +110,7 @@ fn for_client(alloc: Global, kind: &str, number: u32) -> Result<Event, AllocErro
             keys: only(alloc, number)?,
         },
         "wanted" | "released" => Event::DeliverFromClient { client },
-        "news" => Event::DeliverToClient { client },
+        "news" | "failed" => Event::DeliverToClient { client },
         "serve" => Event::ServeGather {
             peer: 1,
             asker: Asker::Client(client),
@@ -140,6 +144,10 @@ fn event(alloc: Global, kind: &str, number: u32) -> Result<Event, AllocError> {
         "lose" => Event::Lose { worker: number },
         "loss" => Event::SeeLoss { worker: number },
         "suspect" => Event::Suspect { worker: number },
+        "copy" => Event::Replicate {
+            key: 0,
+            worker: number,
+        },
         "yes" | "no" | "up" | "mute" => Event::DeliverUp { worker: number },
         "done" => Event::DeliverUp { worker: 1 },
         "give" | "free" => Event::DeliverDown { worker: 1 },

@@ -1,4 +1,4 @@
-// Elements of blocks, by an index of what they are operands of.
+//! Elements of blocks, by an index of what they are operands of.
 ghost use Rattle.std.specs.Prelude.{◌≡◌, ◌+◌, ◌≤◌, length, cond, nat_eq, Some};
 ghost use Rattle.nd_shape.specs.Shape.{IsShape};
 ghost use Rattle.nd_shape.specs.Index.{IsIn};

@@ -1,4 +1,4 @@
-// What has an element, or nothing, at each index of a shape, and its block.
+//! What has an element, or nothing, at each index of a shape, and its block.
 ghost use Rattle.std.specs.Prelude.{◌≡◌, ◌<◌, length, IfOk, IfErr, Some, Ok};
 ghost use Rattle.nd_shape.specs.Shape.{elements};
 ghost use Rattle.nd_shape.specs.Index.{IsIn, index_at};

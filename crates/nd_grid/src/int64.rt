@@ -1,4 +1,4 @@
-// Arithmetic on int64 that a division needs beside the wrapping operations.
+//! Arithmetic on int64 that a division needs beside the wrapping operations.
 ghost use Rattle.std.specs.Prelude.{◌≡◌, ◌≢◌, pos};
 ghost use Rattle.nd_grid.specs.Int64.{wrap, floor_div, floor_rem};
 

@@ -1,4 +1,4 @@
-// Indexes of operands behind indexes of slices, transposes, parts, reductions and products.
+//! Indexes of operands behind indexes of slices, transposes, parts, reductions and products.
 ghost use Rattle.std.specs.Prelude.{◌≡◌, ◌+◌, ◌<◌, ◌≤◌, ◌^◌, ℕ, false, true, length, All, cond, nat_eq, pos, ◌≤ℤ◌, slice_index};
 ghost use Rattle.std.specs.List.{position_or_len};
 ghost use Rattle.nd_shape.specs.Index.{IsIn};

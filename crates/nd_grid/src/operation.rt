@@ -1,4 +1,4 @@
-// Operations on elements. They wrap modulo 2^64.
+//! Operations on elements. They wrap modulo 2^64.
 ghost use Rattle.std.specs.Prelude.{◌≡◌, ◌<◌, ◌^◌, pos, ◌+ℤ◌, ◌*ℤ◌, Some};
 ghost use Rattle.nd_grid.specs.Int64.{wrap};
 ghost use Rattle.nd_grid.specs.Operation.{apply, combine, pick, pick_all, negated_element, neutral, fold_two};

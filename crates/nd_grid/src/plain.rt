@@ -1,4 +1,4 @@
-// Operations on blocks, one element after another by the operation's formula.
+//! Operations on blocks, one element after another by the operation's formula.
 ghost use Rattle.std.specs.Prelude.{◌≡◌, ◌<◌, ◌^◌, [], ◌∷◌, length, map, slice_index, IfOk, IfErr, Ok, Some};
 ghost use Rattle.nd_shape.specs.Broadcast.{broadcast, Agree};
 ghost use Rattle.nd_shape.specs.Shape.{elements};

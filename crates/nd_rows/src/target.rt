@@ -1,4 +1,4 @@
-// Where the elements of a region go in its block.
+//! Where the elements of a region go in its block.
 ghost use Rattle.std.specs.Prelude.{◌≡◌, ◌<◌, ◌^◌, length, IfOk};
 ghost use Rattle.nd_shape.specs.Shape.{elements};
 ghost use Rattle.nd_rows.specs.Storage.{stored, target};

@@ -1,4 +1,4 @@
-// Blocks in column-major order, turned to row-major order.
+//! Blocks in column-major order, turned to row-major order.
 ghost use Rattle.std.specs.Prelude.{◌≡◌, ◌≤◌, ◌<◌, ◌+◌, ◌-◌, ◌*◌, ◌^◌, ℕ, length, reverse, get_or, slice_index_or, pos, IfOk};
 ghost use Rattle.nd_shape.specs.Shape.{elements};
 ghost use Rattle.nd_shape.specs.Index.{index_at, place};

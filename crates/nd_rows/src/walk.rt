@@ -1,4 +1,4 @@
-// A region's elements in the order of storage.
+//! A region's elements in the order of storage.
 ghost use Rattle.std.specs.Prelude.{◌≡◌, ◌≤◌, ◌<◌, ◌+◌, ◌^◌, ℕ, length, reverse, slice_index, IfOk};
 ghost use Rattle.nd_shape.specs.Shape.{elements};
 ghost use Rattle.nd_shape.specs.Index.{index_at, place};

@@ -1,4 +1,4 @@
-// Blocks: arrays in memory.
+//! Blocks: arrays in memory.
 ghost use Rattle.std.specs.Prelude.{◌≡◌, length, IfOk};
 ghost use Rattle.nd_shape.specs.Shape.{elements};
 

@@ -1,4 +1,4 @@
-// Broadcasting, by NumPy's rules.
+//! Broadcasting, by NumPy's rules.
 ghost use Rattle.std.specs.Prelude.{◌≡◌, ◌-◌, ◌<◌, ◌≤◌, ◌^◌, [], ◌∷◌, length, max, All, IfOk, IfErr, OnOk};
 ghost use Rattle.nd_shape.specs.Shape.{elements};
 ghost use Rattle.nd_shape.specs.Broadcast.{broadcast, Agree, RefusesBroadcast, RefusesDims, axes_of, length_on, agrees, common, first_misfit};

@@ -1,4 +1,4 @@
-// How an axis is cut into chunks.
+//! How an axis is cut into chunks.
 ghost use Rattle.std.specs.Prelude.{◌≡◌, ◌≢◌, ◌+◌, ◌*◌, ◌/◌, ◌%◌, ◌<◌, ◌≤◌, ◌^◌, length, IfOk, IfErr, OnOk, [], ◌∷◌};
 ghost use Rattle.nd_shape.specs.Chunk.{chunks_of, even_chunks, CanCut, RefusesChunks, total};
 

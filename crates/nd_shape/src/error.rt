@@ -1,4 +1,4 @@
-// Why shapes, parts of slices and chunks are refused.
+//! Why shapes, parts of slices and chunks are refused.
 ghost use Rattle.std.specs.Prelude.{◌≡◌};
 
 use std::alloc::{AllocError, AllocFailed};

@@ -1,4 +1,4 @@
-// Indexes and their places in row-major order.
+//! Indexes and their places in row-major order.
 ghost use Rattle.std.specs.Prelude.{◌≡◌, ◌<◌, ◌≤◌, ◌^◌, ◌↔◌, length, IsTrue};
 ghost use Rattle.nd_shape.specs.Shape.{elements};
 ghost use Rattle.nd_shape.specs.Index.{IsIn, place, index_at};

@@ -1,4 +1,4 @@
-// Regions: boxes of indexes.
+//! Regions: boxes of indexes.
 ghost use Rattle.std.specs.Prelude.{◌≡◌, ◌+◌, ◌<◌, ◌≤◌, [], ◌∷◌, ◌++◌, length, take, replicate, IsTrue, ◌↔◌, IfOk};
 ghost use Rattle.nd_shape.specs.Region.{Box, IsPart};
 

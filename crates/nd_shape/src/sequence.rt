@@ -1,4 +1,4 @@
-// Small lists that contracts see as lists, and copies of their members.
+//! Small lists that contracts see as lists, and copies of their members.
 use crate::chunk::ChunkSpec;
 use crate::region::Piece;
 use crate::shape::Shape;

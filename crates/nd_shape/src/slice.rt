@@ -1,4 +1,4 @@
-// Slices of one axis, by Python's rules.
+//! Slices of one axis, by Python's rules.
 ghost use Rattle.std.specs.Prelude.{◌≡◌, ◌≢◌, ◌<◌, ◌≤◌, ℕ, ℤ, pos, negsuc, ◌*◌, ◌+ℤ◌, ◌-ℤ◌, ◌<ℤ◌, Option, IfOk, IfErr, cond, nat_eq};
 ghost use Rattle.nd_shape.specs.Slice.{Resolves, RefusesPart, StepsFitAxis, IsRange, clipped, from_end, first_index, end_index};
 

@@ -11,7 +11,13 @@ use Rattle.cluster_msgs.specs.contracts.messages.Peer as Peer
 use Rattle.node_links.specs.contracts.log.Log as Log
 
 entry_send : IsSend Entry.the_field.row
-entry_send = search (sendable, crosses) depth 40 fits 6000
+entry_send =
+    let a : IsSend Peer.the_field.row = search (sendable, crosses) depth 40 fits 6000 in
+    let b : IsSend Up.the_field.row = search (sendable, crosses) depth 40 fits 6000 in
+    let d : IsSend Down.the_field.row = search (sendable, crosses) depth 40 fits 6000 in
+    let m : IsSend Message.the_field.row = search (sendable, crosses) depth 40 fits 6000 in
+    let f : IsSend Event.the_field.row = search (sendable, crosses) depth 40 fits 6000 in
+    search (sendable, crosses) depth 40 fits 6000
 
 pub log_send : IsSend Log.the_field.row
 log_send = let e : IsSend Entry.the_field.row = entry_send in search (sendable, crosses) depth 40 fits 6000

@@ -1,4 +1,4 @@
-// Marks on the nodes that are needed.
+//! Marks on the nodes that are needed.
 ghost use Rattle.std.specs.Prelude.{◌≡◌, ◌<◌, ℕ, length, true, nat_eq, ◌||◌, ◌&&◌, All, IfOk, slice_index_or, false};
 ghost use Rattle.std.specs.List.{list_any};
 ghost use Rattle.array_expr.specs.Node.{IsExpression, NamesEarlier};

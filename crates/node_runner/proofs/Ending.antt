@@ -1,9 +1,9 @@
 -- What the closed nodes tell of a run.
 use Rattle.std.proofs.Common.{◌≡◌, ◌⊎◌, ◌∙◌, ⊎_elim, ℕ, ◌+◌, ◌*◌, ◌^◌, ◌<◌, ◌≤◌, Bool, true, false, List, [], ◌∷◌, ◌++◌, map, length, get_or, sym, ap, subst, arith}
-use Rattle.std.specs.Prelude.{All, Option, Some, None, IfOk, IfSome, is_some, Result, Ok, Err, Contains}
+use Rattle.std.specs.Prelude.{All, Option, Some, None, IfOk, IfSome, is_some, Result, Ok, Err}
 use Rattle.std.proofs.lemmas.List.{length-map, get_or-map}
 use Rattle.std.proofs.lemmas.List.Elements.{All-contains}
-use Rattle.cluster_msgs.specs.Labels.{LabelFacts, BlameFits}
+use Rattle.cluster_msgs.specs.Labels.{LabelFacts}
 use Rattle.cluster_msgs.specs.Shape.{Shape}
 use Rattle.cluster_msgs.specs.declared.events.Entry.{Entry}
 use Rattle.cluster_msgs.specs.declared.events.History.{History}
@@ -19,11 +19,14 @@ use Rattle.node_states.specs.Order.{AreInTime, start_of}
 use Rattle.node_states.specs.declared.why.Why.{Why}
 use Rattle.node_runner.specs.declared.plan.RunPlan.{RunPlan}
 use Rattle.node_runner.specs.declared.ends.RunStatus.{RunStatus}
-use Rattle.node_runner.specs.declared.ends.RunStatus.TheVariants.{Zero, Read, Events, Memory}
+use Rattle.node_runner.specs.declared.ends.RunStatus.TheVariants.{Zero, Killed, Read, Events, Memory}
+use Rattle.node_runner.specs.declared.ends.Failure.{Failure}
+use Rattle.node_runner.specs.declared.ends.Doubt.{Doubt}
+use Rattle.node_runner.specs.declared.ends.Doubt.TheVariants as doubt
 use Rattle.node_runner.specs.declared.ends.Histories.{Histories}
 use Rattle.node_runner.specs.Runs.{IsBookOf, IsTakenFrom, IsFromScheduler, IsFromWorker, IsFromClient, IsHistory, IsNextStep, IsSchedulersBook, IsWorkersBook, IsClientsBook}
 use Rattle.node_runner.specs.Runs.{WorkerSteps, ClientSteps, SchedSteps, WorkerCoreSteps, ClientCoreSteps, SchedCoreSteps}
-use Rattle.node_runner.specs.Runs.{AreWhole, IsSpent, last_facts, IsLeft, HasCause, HasGot, IfStatus, IsBlamed, HasRun, course_of, setting_of}
+use Rattle.node_runner.specs.Runs.{AreWhole, IsSpent, last_facts, IsDoubt, IsDoubtBy, IsFailure, IsGivenUp, IsLeft, HasCause, HasGot, IfStatus, IsBlamed, HasRun, course_of, setting_of}
 use Rattle.node_runner.proofs.Places.{all_by_through}
 use Rattle.node_runner.proofs.Replaying.{replays_on}
 
@@ -130,18 +133,26 @@ cut_by l b book number core taken ws d name client asked h of_scheduler of_worke
     spent.is
 
 -- the cause of there being no blocks
-pub cause_is : {A B : Type 0} (l : LabelFacts B) (wanted : List ℕ) (f : Facts) (left : List (Option Why)) (blame : Option ℕ) (spent : Bool) (Cut : Type 0) (r : Result A RunStatus)
-    → IfStatus (IsBlamed blame spent) r → IfSome blame (λ b. (k : ℕ) × Contains wanted k × BlameFits l k b) → (spent ≡ true → Cut) → IfStatus (HasCause l wanted f left ⊥ Cut) r
-cause_is l wanted f left blame spent Cut (Ok x) is some cut = tt
-cause_is l wanted f left blame spent Cut (Err (Zero key)) is some cut = subst (λ o. IfSome o (λ b. (k : ℕ) × Contains wanted k × BlameFits l k b)) is some
-cause_is l wanted f left blame spent Cut (Err Read) is some cut = absurd is
-cause_is l wanted f left blame spent Cut (Err Events) is some cut = cut is
-cause_is l wanted f left blame spent Cut (Err Memory) is some cut = tt
+pub cause_is : {A B : Type 0} (l : LabelFacts B) (p : RunPlan) (wanted : List ℕ) (f : Facts) (left : List (Option Why)) (failed : Option Failure) (spent : Bool) (Cut : Type 0) (r : Result A RunStatus)
+    → IfStatus (IsBlamed failed spent) r → IfSome failed (IsFailure l p wanted f) → (spent ≡ true → Cut) → IfStatus (HasCause l p wanted f left ⊥ Cut) r
+cause_is l p wanted f left failed spent Cut (Ok x) is some cut = tt
+cause_is l p wanted f left failed spent Cut (Err (Zero key)) is some cut = subst (λ o. IfSome o (IsFailure l p wanted f)) is some
+cause_is l p wanted f left failed spent Cut (Err (Killed key losses)) is some cut = absurd is
+cause_is l p wanted f left failed spent Cut (Err Read) is some cut = absurd is
+cause_is l p wanted f left failed spent Cut (Err Events) is some cut = cut is
+cause_is l p wanted f left failed spent Cut (Err Memory) is some cut = tt
+
+-- what else than want of memory the run may have ended by
+pub doubt_is : {B : Type 0} (l : LabelFacts B) (p : RunPlan) (wanted : List ℕ) (f : Facts) (left : List (Option Why)) (failed : Option Failure) (d : Doubt)
+    → IfSome failed (IsFailure l p wanted f) → IsDoubtBy failed left (IsGivenUp f left) d → IsDoubt l p wanted f left d
+doubt_is l p wanted f left failed doubt.Memory some by = tt
+doubt_is l p wanted f left failed doubt.GivenUp some by = by
+doubt_is l p wanted f left failed (doubt.Killed key losses) some by = (subst (λ o. IfSome o (IsFailure l p wanted f)) by.0 some, by.1)
 
 -- how a run ended, by the closed nodes and what was taken from them
 pub has_run : {B W C D A : Type 0} (l : LabelFacts B) (graph : Shape) (p : RunPlan) (wanted : List ℕ) (b : BookState SchedState)
     (book : W → BookState C) (number : C → ℕ) (core : C → WorkerFacts) (taken : C → ℕ) (ws : List W) (d : BookState D) (name : D → ℕ) (client : D → ClientFacts) (asked : D → ℕ) (h : Histories) (left : List (Option Why))
-    (blame : Option ℕ) (spent : Bool) (r : Result A RunStatus)
+    (failed : Option Failure) (spent : Bool) (r : Result A RunStatus)
     → IsSchedulersBook l graph p b
     → ((k : ℕ) (w : W) → k < length ws → IsWorkersBook l graph p.threads (k + 1) number core (book (get_or ws k w)))
     → IsClientsBook l graph name client d
@@ -149,9 +160,9 @@ pub has_run : {B W C D A : Type 0} (l : LabelFacts B) (graph : Shape) (p : RunPl
     → (b.cut ≡ false → AreInTime b.core.plan (start_of (facts b.core.core).setting) b.entries)
     → AllBy (λ k w o. IfSome o (IsLeft p (facts b.core.core) (k + 1) (book w).entries (book w).cut)) ws left
     → IfOk r (λ x. HasGot (client d.core) d.entries d.cut wanted)
-    → IfStatus (IsBlamed blame spent) r → IfSome blame (λ b. (k : ℕ) × Contains wanted k × BlameFits l k b) → (spent ≡ true → IsSpent b book taken ws d asked)
+    → IfStatus (IsBlamed failed spent) r → IfSome failed (IsFailure l p wanted (facts b.core.core)) → (spent ≡ true → IsSpent b book taken ws d asked)
     → HasRun l graph p wanted ⊥ (last_facts (facts b.core.core) (map (λ w. core (book w).core) ws) (client d.core)) r left h
-has_run l graph p wanted b book number core taken ws d name client asked h left blame spent r scheduler workers clients of_scheduler of_workers of_client timed rows gets blamed some full = record {
+has_run l graph p wanted b book number core taken ws d name client asked h left failed spent r scheduler workers clients of_scheduler of_workers of_client timed rows gets blamed some full = record {
   histories = record {
     scheduler = history_is scheduler_bytes (λ c. facts c.core) (SchedCoreSteps l) (λ s. s.core.taken) (SchedSteps l) (sched_opening (setting_of graph p)) b h.scheduler scheduler.book of_scheduler;
     workers = workers_are l graph p book number core taken ws h.workers.items workers of_workers;
@@ -160,7 +171,7 @@ has_run l graph p wanted b book number core taken ws d name client asked h left 
   };
   left_are = left_is l graph p node_bytes (WorkerCoreSteps l number core) taken (facts b.core.core) book ws h.workers.items left rows of_workers;
   got = subst (λ (z : List Entry × Bool). IfOk r (λ x. HasGot (client d.core) z.0 z.1 wanted)) (λ j. (sym of_client.entries j, sym of_client.cut j)) gets;
-  cause = cause_is l wanted (facts b.core.core) left blame spent (AreWhole h → ⊥) r blamed some
+  cause = cause_is l p wanted (facts b.core.core) left failed spent (AreWhole h → ⊥) r blamed some
       (λ yes. cut_by l b book number core taken ws d name client asked h of_scheduler of_workers of_client (full yes));
 }
 

@@ -2,6 +2,7 @@ pub mod Beginning
 pub mod ClosedRows
 pub mod Crossing
 pub mod Ending
+pub mod Failing
 pub mod FeedFaults
 pub mod Feeds
 pub mod Made

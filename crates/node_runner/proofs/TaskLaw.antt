@@ -40,16 +40,16 @@ pub fits_more : {B X : Type 0} (facts : LabelFacts B) (key : X → ℕ) (xs : Li
 fits_more facts key xs x bs b h fit = subst (λ ks. ParcelFits facts ks (bs ++ b ∷ [])) (sym (map-append key xs (x ∷ []))) (parcel_push facts (map key xs) bs (key x) b h fit)
 
 module _ {J B : Type 0} (graph : J → Shape) (op : J → ℕ → List B → Option B) (dims : J → ℕ → List ℕ) (block_dims : B → List ℕ) (told : Bool)
-    (named : Option J) (job : J) (key : ℕ) (ks : List ℕ) (bs : List (Arc B Global)) (is : named ≡ Some job)
-    (same : ks ≡ (run_facts graph op dims block_dims told named).deps key) (fits : ParcelFits (run_facts graph op dims block_dims told named) ks bs) where
+    (allowed : Option ℕ) (named : Option J) (job : J) (key : ℕ) (ks : List ℕ) (bs : List (Arc B Global)) (is : named ≡ Some job)
+    (same : ks ≡ (run_facts graph op dims block_dims told allowed named).deps key) (fits : ParcelFits (run_facts graph op dims block_dims told allowed named) ks bs) where
   abbrev facts_of_job : LabelFacts B
-  facts_of_job = label_of told None (graph job) (op job) (dims job) block_dims
+  facts_of_job = label_of told allowed (graph job) (op job) (dims job) block_dims
 
   fit : AllZip (BlockFits facts_of_job) ks (blocks_of bs)
-  fit = (subst (λ n. ParcelFits (run_facts graph op dims block_dims told n) ks bs) is fits).blocks_fit
+  fit = (subst (λ n. ParcelFits (run_facts graph op dims block_dims told allowed n) ks bs) is fits).blocks_fit
 
   keys_are : ks ≡ deps_of (graph job) key
-  keys_are = subst (λ n. ks ≡ (run_facts graph op dims block_dims told n).deps key) is same
+  keys_are = subst (λ n. ks ≡ (run_facts graph op dims block_dims told allowed n).deps key) is same
 
   -- the inputs have the lengths of the key's dependencies
   pub inputs_fit : map block_dims (blocks_of bs) ≡ map (dims job) (deps_of (graph job) key)
@@ -60,25 +60,25 @@ module _ {J B : Type 0} (graph : J → Shape) (op : J → ℕ → List B → Opt
 
   -- a block that the operation made
   pub value_fits : IsShape (graph job) → (b : B) → (IsTrue told → Some b ≡ op job key (blocks_of bs)) → block_dims b ≡ dims job key
-      → BlockFits (run_facts graph op dims block_dims told named) key b
-  value_fits shape b made long = subst (λ n. BlockFits (run_facts graph op dims block_dims told n) key b) (sym is) (record {
+      → BlockFits (run_facts graph op dims block_dims told allowed named) key b
+  value_fits shape b made long = subst (λ n. BlockFits (run_facts graph op dims block_dims told allowed n) key b) (sym is) (record {
     dims = long;
     value = λ t. val-values (deps_of (graph job)) (op job) (earlier (graph job) shape) key (blocks_of bs) (have_values t) ∙ sym (made t);
   })
 
   -- a zero divisor that it met
-  pub zero_fits : IsShape (graph job) → (IsTrue told → None ≡ op job key (blocks_of bs)) → ErrorFits (run_facts graph op dims block_dims told named) key
-  zero_fits shape made = subst (λ n. ErrorFits (run_facts graph op dims block_dims told n) key) (sym is)
+  pub zero_fits : IsShape (graph job) → (IsTrue told → None ≡ op job key (blocks_of bs)) → ErrorFits (run_facts graph op dims block_dims told allowed named) key
+  zero_fits shape made = subst (λ n. ErrorFits (run_facts graph op dims block_dims told allowed n) key) (sym is)
       (λ t. faulty-values (deps_of (graph job)) (op job) (earlier (graph job) shape) key (blocks_of bs) (have_values t) (sym (made t)))
 
   -- what the operation answered
   pub outcome_value : IsShape (graph job) → (r : Result (Outcome B) RunFail) → IfOk r (λ o. IsTrue told → value_of o ≡ op job key (blocks_of bs))
-      → IfOk r (λ o. IfValue o (λ b. block_dims b ≡ dims job key)) → IfOk r (λ o. IfValue o (BlockFits (run_facts graph op dims block_dims told named) key))
+      → IfOk r (λ o. IfValue o (λ b. block_dims b ≡ dims job key)) → IfOk r (λ o. IfValue o (BlockFits (run_facts graph op dims block_dims told allowed named) key))
   outcome_value shape (Ok (Value b)) made long = value_fits shape b made long
   outcome_value shape (Ok Zero) made long = tt
   outcome_value shape (Err e) made long = tt
 
   pub outcome_zero : IsShape (graph job) → (r : Result (Outcome B) RunFail) → IfOk r (λ o. IsTrue told → value_of o ≡ op job key (blocks_of bs))
-      → IfOk r (λ o. o ≡ Zero → ErrorFits (run_facts graph op dims block_dims told named) key)
+      → IfOk r (λ o. o ≡ Zero → ErrorFits (run_facts graph op dims block_dims told allowed named) key)
   outcome_zero shape (Ok o) made = λ zero. zero_fits shape (λ t. subst (λ z. value_of z ≡ op job key (blocks_of bs)) zero (made t))
   outcome_zero shape (Err e) made = tt

@@ -3,10 +3,10 @@ use Rattle.std.specs.Prelude.{ℕ, Bool, false, List, [], Option, Some, None, Is
 use Rattle.cluster_msgs.specs.Shape.{Shape}
 use Rattle.cluster_msgs.specs.Labels.{LabelFacts, label_of}
 
--- the label of a run of a job: losses aren't bounded
-abbrev pub run_facts : {J B : Type 0} → (J → Shape) → (J → ℕ → List B → Option B) → (J → ℕ → List ℕ) → (B → List ℕ) → Bool → Option J → LabelFacts B
-run_facts graph operation dims block_dims told (Some job) = label_of told None (graph job) (operation job) (dims job) block_dims
-run_facts graph operation dims block_dims told None =
+-- the label of a run of a job, with what losses are allowed
+abbrev pub run_facts : {J B : Type 0} → (J → Shape) → (J → ℕ → List B → Option B) → (J → ℕ → List ℕ) → (B → List ℕ) → Bool → Option ℕ → Option J → LabelFacts B
+run_facts graph operation dims block_dims told allowed (Some job) = label_of told allowed (graph job) (operation job) (dims job) block_dims
+run_facts graph operation dims block_dims told allowed None =
     record { told = false; allowed = None; deps = λ _. []; dims = λ _. []; value = λ _. None; block_dims = block_dims }
 
 -- a feed fits the job and, where the run is told, tells what it holds

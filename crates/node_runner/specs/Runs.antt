@@ -1,7 +1,9 @@
 -- How a run by threads ended.
-use Rattle.std.specs.Prelude.{◌≡◌, ◌≢◌, ℕ, ◌+◌, ◌^◌, ◌<◌, ◌≤◌, ◌⊎◌, Bool, true, false, List, [], ◌∷◌, ◌++◌, length, map, sum, slice_index_or, Option, Some, None, All, IfOk, IfSome, is_some, Result, Ok, Err, Contains}
+use Rattle.std.specs.Prelude.{◌≡◌, ◌≢◌, ℕ, ◌+◌, ◌^◌, ◌<◌, ◌≤◌, ◌⊎◌, Bool, true, false, List, [], ◌∷◌, ◌++◌, length, map, sum, slice_index_or, Option, Some, None, All, IfOk, IfSome, is_some, Result, Ok, Err, Contains, IsTrue}
 use Rattle.cluster_msgs.specs.Shape.{Shape}
-use Rattle.cluster_msgs.specs.Labels.{LabelFacts, BlameFits}
+use Rattle.cluster_msgs.specs.Labels.{LabelFacts, BlameFits, ErrorFits}
+use Rattle.cluster_msgs.specs.Scripts.{removes_of}
+use Rattle.cluster_msgs.specs.Values.{cone}
 use Rattle.cluster_msgs.specs.declared.events.Entry.{Entry}
 use Rattle.cluster_msgs.specs.declared.events.Item.{Item}
 use Rattle.cluster_msgs.specs.declared.events.Item.TheVariants as item
@@ -25,6 +27,10 @@ use Rattle.node_states.specs.declared.why.Why.TheVariants as why
 use Rattle.node_runner.specs.declared.plan.RunPlan.{RunPlan}
 use Rattle.node_runner.specs.declared.ends.RunStatus.{RunStatus}
 use Rattle.node_runner.specs.declared.ends.RunStatus.TheVariants as status
+use Rattle.node_runner.specs.declared.ends.Failure.{Failure}
+use Rattle.node_runner.specs.declared.ends.Failure.TheVariants as failure
+use Rattle.node_runner.specs.declared.ends.Doubt.{Doubt}
+use Rattle.node_runner.specs.declared.ends.Doubt.TheVariants as doubt
 use Rattle.node_runner.specs.declared.ends.Histories.{Histories}
 
 -- how many worker numbers a run may have: those of the plan, and one for each join of the script
@@ -35,9 +41,13 @@ numbers p = p.workers + sum (map joins_of p.script)
 abbrev pub course_of : RunPlan → Plan
 course_of p = record { workers = p.workers; threads = p.threads; script = p.script }
 
--- one client, and losses aren't bounded
+-- one client, and what the plan allows
 abbrev pub setting_of : Shape → RunPlan → Setting
-setting_of graph p = record { shape = graph; clients = 1; saturation = p.saturation; allowed = None }
+setting_of graph p = record { shape = graph; clients = 1; saturation = p.saturation; allowed = p.allowed }
+
+-- how many items of the script take a worker away
+abbrev pub removals : RunPlan → ℕ
+removals p = sum (map removes_of p.script)
 
 -- the cores with which the scheduler, worker `id` and the client begin
 pub record IsFirstScheduler (graph : Shape) (p : RunPlan) (c : SchedState) : Type 0 where
@@ -182,13 +192,63 @@ pub record AreWhole (h : Histories) : Type 0 where
   pub workers : All (λ (x : History). x.cut ≡ None) h.workers.items
   pub client : h.client.cut ≡ None
 
+-- a wanted key failed, and this key is to blame
+abbrev pub HasBlame : {B : Type 0} → LabelFacts B → List ℕ → ℕ → Type 0
+HasBlame l wanted blame = (k : ℕ) × Contains wanted k × BlameFits l k blame
+
+-- a wanted key failed that has this one in its cone, where the run is told
+abbrev pub HasFailed : {B : Type 0} → LabelFacts B → List ℕ → ℕ → Type 0
+HasFailed l wanted blame = (k : ℕ) × Contains wanted k × (IsTrue l.told → IsTrue (cone l.deps k blame))
+
+-- it failed since this key's own operation meets a zero divisor, where the run is told
+pub record IsAtFault {B : Type 0} (l : LabelFacts B) (wanted : List ℕ) (blame : ℕ) : Type 0 where
+  pub failed : HasFailed l wanted blame
+  pub fault : ErrorFits l blame
+
+-- it failed since this key was killed: by the scheduler's last facts its worker left so often while the key was assigned to it, once more than the plan
+-- allows
+pub record IsKilled {B : Type 0} (l : LabelFacts B) (p : RunPlan) (wanted : List ℕ) (f : Facts) (blame losses : ℕ) : Type 0 where
+  pub failed : HasFailed l wanted blame
+  pub counted : f.losses blame ≡ losses
+  pub above : (a : ℕ) × (p.allowed ≡ Some a) × (losses ≡ a + 1)
+
+abbrev pub IsFailure : {B : Type 0} → LabelFacts B → RunPlan → List ℕ → Facts → Failure → Type 0
+IsFailure l p wanted f (failure.Zero blame) = IsAtFault l wanted blame
+IsFailure l p wanted f (failure.Killed blame losses) = IsKilled l p wanted f blame losses
+
+-- no worker left for want of memory
+abbrev pub NoneForMemory : List (Option Why) → Type 0
+NoneForMemory left = All (λ (o : Option Why). o ≢ Some why.Memory) left
+
+-- what else than want of memory a run may have ended by: nothing, that no worker was left, or that a wanted key failed since this one was killed
+abbrev pub IsDoubt : {B : Type 0} → LabelFacts B → RunPlan → List ℕ → Facts → List (Option Why) → Doubt → Type 0
+IsDoubt l p wanted f left doubt.Memory = Unit {0}
+IsDoubt l p wanted f left doubt.GivenUp = IsGivenUp f left
+IsDoubt l p wanted f left (doubt.Killed blame losses) = IsKilled l p wanted f blame losses × NoneForMemory left
+
+-- the same by why a wanted key failed, if one did, and by what it is that no worker was left
+abbrev pub IsDoubtBy : Option Failure → List (Option Why) → Type 0 → Doubt → Type 0
+IsDoubtBy failed left Given doubt.Memory = Unit {0}
+IsDoubtBy failed left Given doubt.GivenUp = Given
+IsDoubtBy failed left Given (doubt.Killed blame losses) = (failed ≡ Some (failure.Killed blame losses)) × NoneForMemory left
+
+-- how it is decided, where a feed had failed or not
+abbrev pub IsDecided : RunPlan → Type 0 → Doubt → RunStatus → Type 0
+IsDecided p Failed d (status.Zero blame) = ⊥
+IsDecided p Failed d (status.Killed blame losses) = (d ≡ doubt.Killed blame losses) × ((losses ≤ removals p) ⊎ Failed)
+IsDecided p Failed d status.Read = (d ≡ doubt.GivenUp) × Failed
+IsDecided p Failed d status.Events = ⊥
+IsDecided p Failed d status.Memory = Unit {0}
+
 -- the cause of there being no blocks: a wanted key failed and this one is to blame, no worker was left and a feed had failed, or a core had taken 2^40
--- events, and so the history of its node has passed its limit. Want of memory is free
-abbrev pub HasCause : {B : Type 0} → LabelFacts B → List ℕ → Facts → List (Option Why) → Type 0 → Type 0 → RunStatus → Type 0
-HasCause l wanted f left Failed Cut (status.Zero blame) = (k : ℕ) × Contains wanted k × BlameFits l k blame
-HasCause l wanted f left Failed Cut status.Read = IsGivenUp f left × Failed
-HasCause l wanted f left Failed Cut status.Events = Cut
-HasCause l wanted f left Failed Cut status.Memory = Unit {0}
+-- events, and so the history of its node has passed its limit. A key is killed only where no worker left for want of memory, and the script takes workers
+-- away as often, or a feed had failed. Want of memory is free
+abbrev pub HasCause : {B : Type 0} → LabelFacts B → RunPlan → List ℕ → Facts → List (Option Why) → Type 0 → Type 0 → RunStatus → Type 0
+HasCause l p wanted f left Failed Cut (status.Zero blame) = IsAtFault l wanted blame
+HasCause l p wanted f left Failed Cut (status.Killed blame losses) = IsKilled l p wanted f blame losses × NoneForMemory left × ((losses ≤ removals p) ⊎ Failed)
+HasCause l p wanted f left Failed Cut status.Read = IsGivenUp f left × Failed
+HasCause l p wanted f left Failed Cut status.Events = Cut
+HasCause l p wanted f left Failed Cut status.Memory = Unit {0}
 
 abbrev pub IfStatus : {A : Type 0} → (RunStatus → Type 0) → Result A RunStatus → Type 0
 IfStatus P (Ok x) = Unit {0}
@@ -206,12 +266,13 @@ HasGot c entries cut keys = All (IsGot c entries cut) keys
 pub record IsSpent {W C D : Type 0} (b : BookState SchedState) (book : W → BookState C) (taken : C → ℕ) (ws : List W) (d : BookState D) (asked : D → ℕ) : Type 0 where
   pub is : (2 ^ 40 ≤ b.core.core.taken) ⊎ (((w : W) × Contains ws w × (2 ^ 40 ≤ taken (book w).core)) ⊎ (2 ^ 40 ≤ asked d.core))
 
--- the key to blame was found; or there was none, and a core was found spent, or memory is wanted
-abbrev pub IsBlamed : Option ℕ → Bool → RunStatus → Type 0
-IsBlamed blame spent (status.Zero key) = blame ≡ Some key
-IsBlamed blame spent status.Read = ⊥
-IsBlamed blame spent status.Events = spent ≡ true
-IsBlamed blame spent status.Memory = Unit {0}
+-- the key at fault was found; or there was none, or it is in doubt, and a core was found spent, or memory is wanted
+abbrev pub IsBlamed : Option Failure → Bool → RunStatus → Type 0
+IsBlamed failed spent (status.Zero key) = failed ≡ Some (failure.Zero key)
+IsBlamed failed spent (status.Killed key losses) = ⊥
+IsBlamed failed spent status.Read = ⊥
+IsBlamed failed spent status.Events = spent ≡ true
+IsBlamed failed spent status.Memory = Unit {0}
 
 -- how a run ended, of whose nodes this was known at the end: where it gives blocks, the client of these histories got each key that is wanted
 pub record HasRun {B A : Type 0} (l : LabelFacts B) (graph : Shape) (p : RunPlan) (wanted : List ℕ) (Failed : Type 0) (last : LastFacts)
@@ -219,7 +280,7 @@ pub record HasRun {B A : Type 0} (l : LabelFacts B) (graph : Shape) (p : RunPlan
   pub histories : AreHistories l graph p last h
   pub left_are : AreLeft p last h.workers.items left
   pub got : IfOk result (λ blocks. HasGot last.client h.client.entries (is_some h.client.cut) wanted)
-  pub cause : IfStatus (HasCause l wanted last.scheduler left Failed (AreWhole h → ⊥)) result
+  pub cause : IfStatus (HasCause l p wanted last.scheduler left Failed (AreWhole h → ⊥)) result
 
 -- a run that couldn't be started, or not be told of, for want of memory
 pub record HasNotRun {A : Type 0} (result : Result A RunStatus) (left : List (Option Why)) : Type 0 where

@@ -1,15 +1,15 @@
 //! From the closed nodes to how the run ended.
-ghost use Rattle.std.specs.Prelude.{◌≡◌, ◌+◌, ◌<◌, ℕ, true, false, None, Some, Ok, All, map, is_some, vec_len, slice_index_or, IfOk, IfSome};
+ghost use Rattle.std.specs.Prelude.{◌≡◌, ◌+◌, ◌<◌, ℕ, true, false, None, Some, Ok, All, map, vec_len, slice_index_or, IfOk, IfSome};
 ghost use Rattle.cluster_rules.specs.Sched.{Facts};
 ghost use Rattle.gather_client.specs.CoreState.{client_facts};
 ghost use Rattle.scheduler_core.specs.Cores.{facts};
 ghost use Rattle.worker_core.specs.Core.{facts as worker_facts};
 ghost use Rattle.node_states.specs.Order.{AreInTime, start_of};
-ghost use Rattle.node_runner.specs.Runs.{HasRun, HasNotRun, IsGivenUp, IsFromScheduler, IsFromClient, IsSchedulersBook, IsWorkersBook, IsClientsBook, IfStatus, IsBlamed, IsSpent, last_facts};
+ghost use Rattle.node_runner.specs.Runs.{HasRun, HasNotRun, IsDoubt, IsDoubtBy, IsGivenUp, IsFromScheduler, IsFromClient, IsSchedulersBook, IsWorkersBook, IsClientsBook, IfStatus, IsBlamed, IsSpent, last_facts};
 
 use crate::ends::{
-    Ends, Histories, RunStatus, all_left, any_spent, first_blame, hand_all, has_all, has_got,
-    is_given_up, take_apart,
+    Doubt, Ends, Failure, Histories, RunStatus, all_left, any_spent, first_failure, hand_all,
+    has_all, has_got, is_given_up, none_starved, take_apart,
 };
 use crate::plan::RunPlan;
 use crate::sink::Sink;
@@ -40,8 +40,8 @@ pub fn not_run<F: Drop, S: Drop>(alloc: Global, feeds: Vec<F>, stores: Vec<S>) -
     }
 }
 
-/// How a run ended, as far as its closed nodes tell, and whether no worker is left and none left for want of memory. The blocks that the client still has
-/// go to the sink.
+/// How a run ended, as far as its closed nodes tell, and what else than want of memory it may have ended by. The blocks that the client still has go to
+/// the sink.
 pub fn end_nodes<B: Drop, L: Label<Block = B>, F: Drop, S: BlockStore<B, L>, Z: Sink<B, L>>(
     alloc: Global,
     _graph: &GraphShape,
@@ -51,7 +51,8 @@ pub fn end_nodes<B: Drop, L: Label<Block = B>, F: Drop, S: BlockStore<B, L>, Z: 
     workers: Vec<WorkerNode<B, L, F, S>>,
     client: ClientNode<B, L>,
     sink: &mut Z,
-) -> (Ends<F, S>, bool)
+) -> (Ends<F, S>, Doubt)
+    requires allowed { L.facts.allowed ≡ plan.now.allowed }
     requires scheduler { IsSchedulersBook L.facts _graph.now plan.now scheduler.history.book }
     requires workers { (k : ℕ) (w : _) → k < vec_len workers
         → IsWorkersBook L.facts _graph.now plan.now.threads (k + 1) (λ c. c.id) (λ c. worker_facts c.core) (slice_index_or workers.items k w).history.book }
@@ -62,11 +63,10 @@ pub fn end_nodes<B: Drop, L: Label<Block = B>, F: Drop, S: BlockStore<B, L>, Z: 
         (last_facts (facts scheduler.history.book.core.core) (map (λ w. worker_facts w.history.book.core.core) workers.items) (client_facts client.book.core.core))
         result.0.result result.0.left.items) }
     ensures none { result.0.histories ≡ None → HasNotRun result.0.result result.0.left.items }
-    ensures told { result.1 ≡ true → is_some result.0.histories ≡ true }
-    ensures given_up { result.1 ≡ true → IsGivenUp (facts scheduler.history.book.core.core) result.0.left.items }
+    ensures doubt { IsDoubt L.facts plan.now wanted.now (facts scheduler.history.book.core.core) result.0.left.items result.1 }
 {
     let got = has_got(wanted.as_slice(), &client);
-    let blame = first_blame(wanted.as_slice(), &client);
+    let failed = first_failure(plan, wanted.as_slice(), &client, &scheduler);
     let spent = is_spent(&scheduler, workers.as_slice(), &client);
     let left = all_left(alloc, plan, &scheduler, workers.as_slice());
     let joined = scheduler.joined();
@@ -75,9 +75,9 @@ pub fn end_nodes<B: Drop, L: Label<Block = B>, F: Drop, S: BlockStore<B, L>, Z: 
     let all = has_all(wanted.as_slice(), &*sink);
     let (workers, feeds, stores) = take_apart(alloc, workers);
     let told = all_told(scheduler, workers, client, left);
-    let ends = ends_of(alloc, result(got, all, blame, spent), told, feeds, stores);
-    let given_up = is_over(&ends, joined);
-    (ends, given_up)
+    let ends = ends_of(alloc, result(got, all, failed, spent), told, feeds, stores);
+    let doubt = doubt_of(ends.left.as_slice(), joined, failed);
+    (ends, doubt)
 }
 
 /// The history of a closed scheduler, whose entries came in time.
@@ -161,14 +161,26 @@ fn ends_of<F: Drop, S: Drop>(
     }
 }
 
-/// Whether a run that is told of was given up, where so many workers joined.
-fn is_over<F: Drop, S: Drop>(ends: &Ends<F, S>, joined: Option<u32>) -> bool
-    ensures told { result ≡ true → is_some ends.now.histories ≡ true }
-    ensures given_up { (f : Facts) → IfSome joined (λ n. n ≡ f.last_worker) → result ≡ true → IsGivenUp f ends.now.left.items }
+/// What else than want of memory a run may have ended by, where so many workers joined, and a wanted key failed so, if one did.
+fn doubt_of(left: &[Option<Why>], joined: Option<u32>, failed: Option<Failure>) -> Doubt
+    ensures { (f : Facts) → IfSome joined (λ n. n ≡ f.last_worker) → IsDoubtBy failed left.now (IsGivenUp f left.now) result }
 {
-    match &ends.histories {
-        Some(_) => is_given_up(joined, ends.left.as_slice()),
-        None => false,
+    match failed {
+        Some(Failure::Killed { key, losses }) => {
+            if none_starved(left) {
+                Doubt::Killed { key, losses }
+            } else {
+                Doubt::Memory
+            }
+        }
+        Some(Failure::Zero { key: _ }) => Doubt::Memory,
+        None => {
+            if is_given_up(joined, left) {
+                Doubt::GivenUp
+            } else {
+                Doubt::Memory
+            }
+        }
     }
 }
 
@@ -189,16 +201,17 @@ fn is_spent<B: Drop, L: Label<Block = B>, F: Drop, S: BlockStore<B, L>>(
     any_spent(workers)
 }
 
-/// How a run ended: well where the client got all and the sink has all; else by the key to blame, if one failed; else by a core that is spent.
-fn result(got: bool, all: bool, blame: Option<u32>, spent: bool) -> Result<(), RunStatus>
+/// How a run ended: well where the client got all and the sink has all; else by the key at fault, if one failed by a zero divisor; else by a core that
+/// is spent.
+fn result(got: bool, all: bool, failed: Option<Failure>, spent: bool) -> Result<(), RunStatus>
     ensures got { IfOk result (λ _. got ≡ true) }
     ensures all { IfOk result (λ _. all ≡ true) }
-    ensures cause { IfStatus (IsBlamed blame spent) result }
+    ensures cause { IfStatus (IsBlamed failed spent) result }
 {
     if got && all {
         return Ok(());
     }
-    if let Some(key) = blame {
+    if let Some(Failure::Zero { key }) = failed {
         return Err(RunStatus::Zero { key });
     }
     if spent {

@@ -1,6 +1,5 @@
 //! How a run ended, as the closed nodes tell.
-ghost use Rattle.std.specs.Prelude.{◌≡◌, ◌≢◌, ◌≤◌, ◌+◌, ◌^◌, ◌<◌, ◌++◌, ◌∷◌, [], ℕ, true, false, None, slice_index_or, All, Contains, IfOk, IfSome, Some};
-ghost use Rattle.cluster_msgs.specs.Labels.{BlameFits};
+ghost use Rattle.std.specs.Prelude.{◌≡◌, ◌≢◌, ◌≤◌, ◌+◌, ◌^◌, ◌<◌, ◌++◌, ◌∷◌, [], ℕ, List, true, false, None, slice_index_or, All, Contains, IfOk, IfSome, Some};
 ghost use Rattle.cluster_rules.specs.Sched.{Facts as SchedFacts, connected};
 ghost use Rattle.gather_client.specs.CoreState.{client_facts};
 ghost use Rattle.scheduler_core.specs.Cores.{facts};
@@ -8,7 +7,8 @@ ghost use Rattle.worker_core.specs.Core.{facts as worker_facts};
 ghost use Rattle.turn_cell.specs.Rows.{AllBy};
 ghost use Rattle.node_states.specs.Fitting.{ClientFits};
 ghost use Rattle.node_states.specs.declared.why.Why.TheVariants as why;
-ghost use Rattle.node_runner.specs.Runs.{HasGot, IsGivenUp, IsGot, IsLeft, IsNamed, IsFromWorker};
+ghost use Rattle.node_runner.specs.declared.plan.RunPlan.{RunPlan as AnyPlan};
+ghost use Rattle.node_runner.specs.Runs.{HasBlame, HasGot, IsFailure, IsFromWorker, IsGivenUp, IsGot, IsLeft, IsNamed, NoneForMemory};
 
 use crate::plan::RunPlan;
 use crate::sink::Sink;
@@ -23,12 +23,32 @@ use std::alloc::{AllocError, Global};
 pub enum RunStatus {
     /// A wanted key failed, and this key is to blame: it met a zero divisor.
     Zero { key: u32 },
+    /// A wanted key failed, and this key is to blame: its worker left so often while the key was assigned to it, once more than is allowed.
+    Killed { key: u32, losses: u32 },
     /// No worker was left, and a feed had failed.
     Read,
     /// A node's core has taken all events that it takes, 2^40.
     Events,
     /// There was no memory.
     Memory,
+}
+
+/// Why a wanted key failed: the key that is to blame met a zero divisor, or was killed.
+#[derive(Clone, Copy)]
+pub enum Failure {
+    Zero { key: u32 },
+    Killed { key: u32, losses: u32 },
+}
+
+/// What else than want of memory a run may have ended by, where the cause of that is there.
+#[derive(Clone, Copy)]
+pub enum Doubt {
+    /// Nothing else.
+    Memory,
+    /// No worker is left, and none left for want of memory.
+    GivenUp,
+    /// This key, which was killed, is to blame, and no worker left for want of memory.
+    Killed { key: u32, losses: u32 },
 }
 
 /// The histories of all nodes: the scheduler's, those of the workers by number, and the client's.
@@ -95,12 +115,12 @@ pub fn hand_all<B: Drop, L: Label<Block = B>, Z: Sink<B, L>>(blocks: Vec<Keyed<B
 }
 
 /// The key that is to blame for the first of these keys that failed.
-pub fn first_blame<B: Drop, L: Label<Block = B>>(
+fn first_blame<B: Drop, L: Label<Block = B>>(
     wanted: &[u32],
     client: &ClientNode<B, L>,
 ) -> Option<u32>
     requires { ClientFits L.facts (client_facts client.now.book.core.core) }
-    ensures { IfSome result (λ blame. (k : ℕ) × Contains wanted.now k × BlameFits L.facts k blame) }
+    ensures { IfSome result (HasBlame L.facts wanted.now) }
 {
     for key in wanted {
         if let Some(blame) = client.failure(*key) {
@@ -108,6 +128,78 @@ pub fn first_blame<B: Drop, L: Label<Block = B>>(
         }
     }
     None
+}
+
+/// Why the first of these keys that failed did so, as far as the scheduler's core tells: where losses aren't bounded, by a zero divisor.
+pub fn first_failure<B: Drop, L: Label<Block = B>>(
+    plan: &RunPlan,
+    wanted: &[u32],
+    client: &ClientNode<B, L>,
+    scheduler: &SchedulerNode<B, L>,
+) -> Option<Failure>
+    requires fits { ClientFits L.facts (client_facts client.now.book.core.core) }
+    requires allowed { L.facts.allowed ≡ plan.now.allowed }
+    ensures { IfSome result (IsFailure L.facts plan.now wanted.now (facts scheduler.now.history.book.core.core)) }
+{
+    let blame = first_blame(wanted, client)?;
+    failure_of(plan, scheduler, blame)
+}
+
+/// Why the key that is to blame failed. A client is told the key and not the cause.
+#[tactic(auto, using(crate::proofs::Failing::fault_where_unbounded))]
+fn failure_of<B: Drop, L: Label<Block = B>>(
+    plan: &RunPlan,
+    scheduler: &SchedulerNode<B, L>,
+    blame: u32,
+) -> Option<Failure>
+    requires allowed { L.facts.allowed ≡ plan.now.allowed }
+    ensures { IfSome result (λ x. (wanted : List ℕ) → HasBlame L.facts wanted blame → IsFailure L.facts plan.now wanted (facts scheduler.now.history.book.core.core) x) }
+{
+    match plan.allowed {
+        None => Some(Failure::Zero { key: blame }),
+        Some(_) => failure_at(scheduler, blame),
+    }
+}
+
+/// The same by the scheduler's core, as far as it goes on.
+#[tactic(auto, using(crate::proofs::Failing::fault_at, crate::proofs::Failing::killed_at))]
+fn failure_at<B: Drop, L: Label<Block = B>>(
+    scheduler: &SchedulerNode<B, L>,
+    blame: u32,
+) -> Option<Failure>
+    ensures { (p : AnyPlan) → L.facts.allowed ≡ p.allowed → IfSome result (λ x. (wanted : List ℕ) → HasBlame L.facts wanted blame →
+        IsFailure L.facts p wanted (facts scheduler.now.history.book.core.core) x) }
+{
+    let core = scheduler.history.core()?;
+    if let Some(losses) = core.killed(blame) {
+        return Some(Failure::Killed { key: blame, losses });
+    }
+    if core.is_at_fault(blame) {
+        return Some(Failure::Zero { key: blame });
+    }
+    None
+}
+
+/// Whether no worker left for want of memory.
+pub fn none_starved(left: &[Option<Why>]) -> bool
+    ensures { result ≡ true → NoneForMemory left.now }
+{
+    for cause in left {
+        if is_starved(*cause) {
+            return false;
+        }
+    }
+    true
+}
+
+fn is_starved(cause: Option<Why>) -> bool
+    ensures { result ≡ false → cause ≢ Some why.Memory }
+{
+    match cause {
+        Some(Why::Memory) => true,
+        Some(Why::Script | Why::Feed | Why::Link) => false,
+        None => false,
+    }
 }
 
 /// Whether a worker's core has taken all events that it takes.

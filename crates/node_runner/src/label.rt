@@ -8,14 +8,16 @@ use cluster_msgs::{JobSpec, Label, Outcome, RunFail};
 use std::marker::{Brand, Model, PhantomData};
 use std::sync::Arc;
 
-/// What is said of one run: its job, and whether its feeds tell what they hold. It has no bytes and no calls; the call that makes the run picks it, by
-/// `Brand`.
+/// What is said of one run: its job, whether its feeds tell what they hold, and how often a key's worker may leave while the key is assigned to it. It
+/// has no bytes and no calls; the call that makes the run picks it, by `Brand`.
 pub trait RunName<J: JobSpec> {
-    ghost use Rattle.std.specs.Prelude.{Bool, Option};
+    ghost use Rattle.std.specs.Prelude.{ℕ, Bool, Option};
 
     ghost job: { Option J };
 
     ghost told: { Bool };
+
+    ghost allowed: { Option ℕ };
 }
 
 impl<J: JobSpec> RunName<J> for Brand {
@@ -24,6 +26,8 @@ impl<J: JobSpec> RunName<J> for Brand {
     ghost job = { None };
 
     ghost told = { false };
+
+    ghost allowed = { None };
 }
 
 /// The label of a run.
@@ -36,7 +40,7 @@ impl<J: JobSpec, K: RunName<J>> Label for RunLabel<J, K> {
 
     ghost use Rattle.node_runner.specs.Naming.{run_facts};
 
-    ghost facts = { run_facts J.graph J.operation J.key_dims J.block_dims K.told K.job };
+    ghost facts = { run_facts J.graph J.operation J.key_dims J.block_dims K.told K.allowed K.job };
 }
 
 /// A feed that fits the job of the run and, where the run is told, tells what it holds. In a clause it is the feed.

@@ -54,7 +54,8 @@ pub fn make_rows<J: JobSpec, K: RunName<J>, S: BlockStore<J::Block, RunLabel<J, 
     stores: Vec<S>,
     parts: u32,
 ) -> (RowsOf<J::Block, RunLabel<J, K>, Fed<J, K>, S>, bool)
-    requires graph { (run_facts J.graph J.operation J.key_dims J.block_dims K.told K.job).deps ≡ deps_of graph.now }
+    requires graph { (run_facts J.graph J.operation J.key_dims J.block_dims K.told K.allowed K.job).deps ≡ deps_of graph.now }
+    requires allowed { (run_facts J.graph J.operation J.key_dims J.block_dims K.told K.allowed K.job).allowed ≡ plan.now.allowed }
     requires capacity { 0 < plan.now.capacity }
     requires saturation { (1 ≤ plan.now.saturation) × (plan.now.saturation ≤ 1000) }
     requires numbers { numbers plan.now ≤ 1024 }
@@ -90,6 +91,7 @@ fn fill<B: Drop, L: Label<Block = B>, F: Drop, S: BlockStore<B, L>>(
     ports: AllPorts<B, L>,
 ) -> (RowsOf<B, L, F, S>, bool)
     requires graph { L.facts.deps ≡ deps_of graph.now }
+    requires allowed { L.facts.allowed ≡ plan.now.allowed }
     requires saturation { (1 ≤ plan.now.saturation) × (plan.now.saturation ≤ 1000) }
     requires few { vec_len ports.workers ≤ 1024 }
     requires empty { (rows.scheduler.passes.items ≡ []) × (rows.workers.passes.items ≡ []) × (rows.clients.passes.items ≡ []) }
@@ -174,6 +176,7 @@ fn add_scheduler<B: Drop, L: Label<Block = B>>(
     sent: Tally,
 ) -> (Made<SchedulerNode<B, L>, L>, bool)
     requires graph { L.facts.deps ≡ deps_of graph.now }
+    requires allowed { L.facts.allowed ≡ plan.now.allowed }
     requires saturation { (1 ≤ plan.now.saturation) × (plan.now.saturation ≤ 1000) }
     requires empty { row.passes.items ≡ [] }
     ensures parts { result.0.parts ≡ row.parts }
@@ -193,6 +196,7 @@ fn make_scheduler<B: Drop, L: Label<Block = B>>(
     sent: Tally,
 ) -> Result<SchedulerNode<B, L>, AllocError>
     requires graph { L.facts.deps ≡ deps_of graph.now }
+    requires allowed { L.facts.allowed ≡ plan.now.allowed }
     requires saturation { (1 ≤ plan.now.saturation) × (plan.now.saturation ≤ 1000) }
     ensures first { IfOk result (λ s. IsFirstScheduler graph.now plan.now s.history.book.kept) }
     ensures fits { IfOk result (λ s. SchedFits L.facts (facts s.history.book.core.core)) }
@@ -204,13 +208,14 @@ fn make_scheduler<B: Drop, L: Label<Block = B>>(
 }
 
 /// The scheduler's core, with what its node goes by.
-#[tactic(auto, using(crate::proofs::Starts::opening_of, crate::proofs::Starts::graph_of, crate::proofs::Starts::first_of, node_states::proofs::SchedLaw::opening_fits))]
+#[tactic(auto, using(crate::proofs::Starts::opening_of, crate::proofs::Starts::graph_of, crate::proofs::Starts::allowed_of, crate::proofs::Starts::first_of, node_states::proofs::SchedLaw::opening_fits))]
 fn scheduling_core<L: Label>(
     alloc: Global,
     graph: &GraphShape,
     plan: &RunPlan,
 ) -> Result<SchedulingCore<L>, AllocError>
     requires graph { L.facts.deps ≡ deps_of graph.now }
+    requires allowed { L.facts.allowed ≡ plan.now.allowed }
     requires saturation { (1 ≤ plan.now.saturation) × (plan.now.saturation ≤ 1000) }
     ensures first { IfOk result (λ c. IsFirstScheduler graph.now plan.now c) }
     ensures opening { IfOk result (λ c. IsOpening (facts c.core)) }
@@ -219,7 +224,7 @@ fn scheduling_core<L: Label>(
 {
     let shape = graph.copy()?;
     let script = plan.script.copy()?;
-    let core = Sched::new(alloc, shape, CLIENT, plan.saturation)?;
+    let core = Sched::new(alloc, shape, CLIENT, plan.saturation, plan.allowed)?;
     let course = Plan {
         workers: plan.workers,
         threads: plan.threads,

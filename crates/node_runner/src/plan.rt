@@ -1,16 +1,19 @@
 //! What a run is to be like.
 ghost use Rattle.std.specs.Prelude.{◌≡◌, ◌<◌, ◌≤◌, ℕ, true, map, vec_len, Contains};
-ghost use Rattle.node_runner.specs.Runs.{IsNamed, numbers};
+ghost use Rattle.cluster_msgs.specs.Scripts.{removes_of};
+ghost use Rattle.node_runner.specs.Runs.{IsNamed, numbers, removals};
 
 use cluster_msgs::{Item, Script};
 
 /// The workers that join first, how many tasks each may run at once, how full a worker is at which no more root tasks go to it, in tenths of its
-/// threads, what the script makes happen, and how many packets a link holds.
+/// threads, how often a key's worker may leave while the key is assigned to it, where that is bounded, what the script makes happen, and how many
+/// packets a link holds.
 #[derive(Drop)]
 pub struct RunPlan {
     pub workers: u32,
     pub threads: u32,
     pub saturation: u32,
+    pub allowed: Option<u32>,
     pub script: Script,
     pub capacity: usize,
 }
@@ -46,6 +49,18 @@ impl RunPlan {
         false
     }
 
+    /// Whether the script takes workers away at least so often.
+    #[tactic(auto, using(crate::proofs::Numbers::removals_next, crate::proofs::Numbers::removals_end))]
+    pub fn removes(&self, often: u32) -> bool
+        ensures { result ≡ true → often ≤ removals self.now }
+    {
+        let mut left = often;
+        for item in self.script.as_slice() {
+            left = left.saturating_sub(removes_of(item));
+        }
+        left == 0
+    }
+
     /// Whether one of these numbers of feeds is less than a worker's threads.
     pub fn is_short<F>(&self, feeds: &[Vec<F>]) -> bool
         ensures { result ≡ true → (n : ℕ) × Contains (map (λ v. vec_len v) feeds.now) n × (n < self.now.threads) }
@@ -56,5 +71,15 @@ impl RunPlan {
             }
         }
         false
+    }
+}
+
+/// How many workers an item takes away.
+fn removes_of(item: &Item) -> u32
+    ensures { result ≡ removes_of item.now }
+{
+    match item {
+        Item::Lose { w: _, at: _ } | Item::Suspect { w: _, at: _ } => 1,
+        Item::Join { at: _ } => 0,
     }
 }

@@ -1,17 +1,17 @@
 //! A run, from its nodes to its end.
-ghost use Rattle.std.specs.Prelude.{◌≡◌, ◌+◌, ◌<◌, ◌≤◌, ◌*◌, ◌⊎◌, ℕ, Some, None, Err, All, Contains, map, true, vec_len, slice_index_or, IfOk, IfSome};
+ghost use Rattle.std.specs.Prelude.{◌≡◌, ◌+◌, ◌<◌, ◌≤◌, ◌*◌, ◌⊎◌, ℕ, Some, None, Err, All, Contains, map, false, true, vec_len, slice_index_or, IfOk, IfSome};
 ghost use Rattle.cluster_msgs.specs.Shape.{Shape};
 ghost use Rattle.gather_client.specs.CoreState.{client_facts};
 ghost use Rattle.turn_cell.specs.Rows.{berth_of};
 ghost use Rattle.worker_core.specs.Core.{facts as worker_facts};
-ghost use Rattle.node_runner.specs.declared.ends.RunStatus.TheVariants as status;
+ghost use Rattle.node_runner.specs.declared.ends.RunStatus.{RunStatus as AnyStatus};
 ghost use Rattle.node_runner.specs.Making.{AreMade};
 ghost use Rattle.node_runner.specs.Naming.{run_facts};
-ghost use Rattle.node_runner.specs.Runs.{HasFeedFault, HasNotRun, HasRun, HowItEnded, IsGivenUp, LastFacts, numbers};
+ghost use Rattle.node_runner.specs.Runs.{HasFeedFault, HasNotRun, HasRun, HowItEnded, IsDecided, IsDoubt, LastFacts, numbers};
 ghost use Rattle.node_runner.specs.Runs.{IsFirstScheduler, IsFirstWorker, IsFirstClient, IsSchedulersBook, IsWorkersBook, IsClientsBook};
 
 use crate::closing::{end_nodes, not_run};
-use crate::ends::{Ends, RunStatus, take_apart};
+use crate::ends::{Doubt, Ends, RunStatus, take_apart};
 use crate::label::{Fed, RunLabel, RunName};
 use crate::making::{Rows, make_rows};
 use crate::plan::RunPlan;
@@ -67,9 +67,10 @@ where
     requires capacity { 0 < plan.now.capacity }
     requires threads { (1 ≤ plan.now.threads) × (plan.now.workers * plan.now.threads ≤ 64) }
     requires numbers { numbers plan.now ≤ 1024 }
+    requires allowed { K.allowed ≡ plan.now.allowed }
     ensures had { IfOk result.0.result (λ _. All (λ k. Z.had result.1 k ≡ true) wanted.now) }
     ensures leads { Z.leads sink result.1 }
-    ensures ended { HowItEnded (run_facts J.graph J.operation J.key_dims J.block_dims K.told K.job) (J.graph job.now) plan.now wanted.now
+    ensures ended { HowItEnded (run_facts J.graph J.operation J.key_dims J.block_dims K.told K.allowed K.job) (J.graph job.now) plan.now wanted.now
         (HasFeedFault J.fault_count plan.now.threads (map (λ v. vec_len v) feeds.items) result.0.feeds.items)
         result.0.result result.0.left.items result.0.histories }
 {
@@ -100,6 +101,7 @@ fn begin<J: JobSpec, K: RunName<J>, S: BlockStore<J::Block, RunLabel<J, K>>>(
     requires capacity { 0 < plan.now.capacity }
     requires threads { (1 ≤ plan.now.threads) × (plan.now.workers * plan.now.threads ≤ 64) }
     requires numbers { numbers plan.now ≤ 1024 }
+    requires allowed { K.allowed ≡ plan.now.allowed }
     ensures parts { (result.0.workers.parts ≡ result.0.scheduler.parts) × (result.0.clients.parts ≡ result.0.scheduler.parts) }
     ensures scheduler { IfSome result.1 (λ _. AreMade (λ k s. IsFirstScheduler (J.graph job.now) plan.now s.history.book.kept) 1
         (map (λ p. berth_of p.seat) result.0.scheduler.passes.items)) }
@@ -148,6 +150,7 @@ where
     S::Ready: Send + Sync,
     Z: Sink<J::Block, RunLabel<J, K>> + Drop,
     requires named { K.job ≡ Some job.now }
+    requires allowed { K.allowed ≡ plan.now.allowed }
     requires parts { (rows.workers.parts ≡ rows.scheduler.parts) × (rows.clients.parts ≡ rows.scheduler.parts) }
     requires scheduler { AreMade (λ k s. IsFirstScheduler (J.graph job.now) plan.now s.history.book.kept) 1
         (map (λ p. berth_of p.seat) rows.scheduler.passes.items) }
@@ -157,13 +160,13 @@ where
         (map (λ p. berth_of p.seat) rows.clients.passes.items) }
     ensures had { IfOk result.0.result (λ _. All (λ k. Z.had result.1 k ≡ true) wanted.now) }
     ensures leads { Z.leads sink result.1 }
-    ensures ended { HowItEnded (run_facts J.graph J.operation J.key_dims J.block_dims K.told K.job) (J.graph job.now) plan.now wanted.now
+    ensures ended { HowItEnded (run_facts J.graph J.operation J.key_dims J.block_dims K.told K.allowed K.job) (J.graph job.now) plan.now wanted.now
         ((short ≡ true) ⊎ ((f : _) × Contains result.0.feeds.items f × (0 < J.fault_count f)))
         result.0.result result.0.left.items result.0.histories }
 {
     let (closed, mut sink) = run_rows(rt, alloc, job, gate, plan, wanted, rows, stamps, sink);
-    let (ends, given_up) = end_rows(alloc, job.shape(), plan, wanted, closed, &mut sink);
-    (with_reads(job, short, given_up, ends), sink)
+    let (ends, doubt) = end_rows(alloc, job.shape(), plan, wanted, closed, &mut sink);
+    (without_doubt(job, plan, short, doubt, ends), sink)
 }
 
 /// Ends a run whose nodes couldn't all be made.
@@ -220,12 +223,12 @@ where
         (numbers plan.now) (map (λ p. berth_of p.seat) rows.workers.passes.items) }
     requires client { AreMade (λ k s. IsFirstClient (J.graph job.now) s.book.kept.id (client_facts s.book.kept.core)) 1
         (map (λ p. berth_of p.seat) rows.clients.passes.items) }
-    ensures scheduler { All (λ s. IsSchedulersBook (run_facts J.graph J.operation J.key_dims J.block_dims K.told K.job) (J.graph job.now) plan.now
+    ensures scheduler { All (λ s. IsSchedulersBook (run_facts J.graph J.operation J.key_dims J.block_dims K.told K.allowed K.job) (J.graph job.now) plan.now
         s.history.book) result.0.scheduler.items }
     ensures workers { (k : ℕ) (w : _) → k < vec_len result.0.workers
-        → IsWorkersBook (run_facts J.graph J.operation J.key_dims J.block_dims K.told K.job) (J.graph job.now) plan.now.threads (k + 1)
+        → IsWorkersBook (run_facts J.graph J.operation J.key_dims J.block_dims K.told K.allowed K.job) (J.graph job.now) plan.now.threads (k + 1)
         (λ c. c.id) (λ c. worker_facts c.core) (slice_index_or result.0.workers.items k w).history.book }
-    ensures clients { All (λ c. IsClientsBook (run_facts J.graph J.operation J.key_dims J.block_dims K.told K.job) (J.graph job.now)
+    ensures clients { All (λ c. IsClientsBook (run_facts J.graph J.operation J.key_dims J.block_dims K.told K.allowed K.job) (J.graph job.now)
         (λ c. c.id) (λ c. client_facts c.core) c.book) result.0.clients.items }
     ensures leads { Z.leads sink result.1 }
 {
@@ -298,7 +301,7 @@ where
     )
 }
 
-/// How a run ended, as its closed nodes tell, and whether no worker is left and none left for want of memory.
+/// How a run ended, as its closed nodes tell, and what else than want of memory it may have ended by.
 fn end_rows<B: Drop, L: Label<Block = B>, F: Drop, S: BlockStore<B, L>, Z: Sink<B, L>>(
     alloc: Global,
     graph: &GraphShape,
@@ -306,7 +309,8 @@ fn end_rows<B: Drop, L: Label<Block = B>, F: Drop, S: BlockStore<B, L>, Z: Sink<
     wanted: &KeyList,
     closed: Closed<SchedulerNode<B, L>, WorkerNode<B, L, F, S>, ClientNode<B, L>>,
     sink: &mut Z,
-) -> (Ends<F, S>, bool)
+) -> (Ends<F, S>, Doubt)
+    requires allowed { L.facts.allowed ≡ plan.now.allowed }
     requires scheduler { All (λ s. IsSchedulersBook L.facts graph.now plan.now s.history.book) closed.scheduler.items }
     requires workers { (k : ℕ) (w : _) → k < vec_len closed.workers
         → IsWorkersBook L.facts graph.now plan.now.threads (k + 1) (λ c. c.id) (λ c. worker_facts c.core) (slice_index_or closed.workers.items k w).history.book }
@@ -314,7 +318,7 @@ fn end_rows<B: Drop, L: Label<Block = B>, F: Drop, S: BlockStore<B, L>, Z: Sink<
     ensures had { IfOk result.0.result (λ _. All (λ k. Z.had sink.new k ≡ true) wanted.now) }
     ensures leads { Z.leads sink.old sink.new }
     ensures ended { IfSome result.0.histories (λ h. (last : LastFacts) × HasRun L.facts graph.now plan.now wanted.now ⊥ last result.0.result result.0.left.items h
-        × (result.1 ≡ true → IsGivenUp last.scheduler result.0.left.items)) }
+        × IsDoubt L.facts plan.now wanted.now last.scheduler result.0.left.items result.1) }
     ensures none { result.0.histories ≡ None → HasNotRun result.0.result result.0.left.items }
 {
     match one_of_each(closed) {
@@ -323,7 +327,7 @@ fn end_rows<B: Drop, L: Label<Block = B>, F: Drop, S: BlockStore<B, L>, Z: Sink<
         ),
         Err(workers) => {
             let (_, feeds, stores) = take_apart(alloc, workers);
-            (not_run(alloc, feeds, stores), false)
+            (not_run(alloc, feeds, stores), Doubt::Memory)
         }
     }
 }
@@ -352,28 +356,33 @@ fn last_of<T: Drop>(row: Vec<T>) -> Option<T>
     row.pop()
 }
 
-/// The same with a read fault in the place of want of memory, where no worker is left, none left for want of memory, and a feed had failed or was
-/// missing.
-fn with_reads<J: JobSpec, K: RunName<J>, S: Drop>(
+/// The same without doubt: with a read fault or a killed key in the place of want of memory, where the cause of that is there.
+fn without_doubt<J: JobSpec, K: RunName<J>, S: Drop>(
     job: &J,
+    plan: &RunPlan,
     short: bool,
-    given_up: bool,
+    doubt: Doubt,
     ends: Ends<Fed<J, K>, S>,
 ) -> Ends<Fed<J, K>, S>
     ensures same { (result.histories ≡ ends.histories) × (result.left ≡ ends.left) × (result.feeds ≡ ends.feeds) }
     ensures none { ends.histories ≡ None → result.result ≡ ends.result }
     ensures changed { (result.result ≡ ends.result)
-        ⊎ ((result.result ≡ Err status.Read) × (given_up ≡ true) × ((short ≡ true) ⊎ ((f : _) × Contains ends.feeds.items f × (0 < J.fault_count f)))) }
+        ⊎ ((s : AnyStatus) × (result.result ≡ Err s) × IsDecided plan.now ((short ≡ true) ⊎ ((f : _) × Contains ends.feeds.items f × (0 < J.fault_count f))) doubt s) }
 {
-    let failed = given_up && (short || has_failed(job, ends.feeds.as_slice()));
-    with_read(failed, ends)
+    let failed = short || has_failed(job, ends.feeds.as_slice());
+    decide(plan, failed, doubt, ends)
 }
 
-/// The same with a read fault in the place of want of memory, where a feed failed and the run can be told of.
-fn with_read<F: Drop, S: Drop>(failed: bool, ends: Ends<F, S>) -> Ends<F, S>
+/// The same with how it is decided in the place of want of memory, where the run can be told of.
+fn decide<F: Drop, S: Drop>(
+    plan: &RunPlan,
+    failed: bool,
+    doubt: Doubt,
+    ends: Ends<F, S>,
+) -> Ends<F, S>
     ensures same { (result.histories ≡ ends.histories) × (result.left ≡ ends.left) × (result.feeds ≡ ends.feeds) }
     ensures none { ends.histories ≡ None → result.result ≡ ends.result }
-    ensures changed { (result.result ≡ ends.result) ⊎ ((result.result ≡ Err status.Read) × (failed ≡ true)) }
+    ensures changed { (result.result ≡ ends.result) ⊎ ((s : AnyStatus) × (result.result ≡ Err s) × IsDecided plan.now (failed ≡ true) doubt s) }
 {
     let Ends {
         result,
@@ -382,9 +391,9 @@ fn with_read<F: Drop, S: Drop>(failed: bool, ends: Ends<F, S>) -> Ends<F, S>
         feeds,
         stores,
     } = ends;
-    let failed = failed && histories.is_some();
+    let told = histories.is_some();
     Ends {
-        result: read_fault(failed, result),
+        result: decided(plan, told, failed, doubt, result),
         histories,
         left,
         feeds,
@@ -392,16 +401,47 @@ fn with_read<F: Drop, S: Drop>(failed: bool, ends: Ends<F, S>) -> Ends<F, S>
     }
 }
 
-fn read_fault<T: Drop>(failed: bool, ended: Result<T, RunStatus>) -> Result<T, RunStatus>
-    ensures { (result ≡ ended) ⊎ ((result ≡ Err status.Read) × (failed ≡ true)) }
+fn decided<T: Drop>(
+    plan: &RunPlan,
+    told: bool,
+    failed: bool,
+    doubt: Doubt,
+    ended: Result<T, RunStatus>,
+) -> Result<T, RunStatus>
+    ensures none { told ≡ false → result ≡ ended }
+    ensures changed { (result ≡ ended) ⊎ ((s : AnyStatus) × (result ≡ Err s) × IsDecided plan.now (failed ≡ true) doubt s) }
 {
     match ended {
-        Err(RunStatus::Memory) => if failed {
-            Err(RunStatus::Read)
+        Err(RunStatus::Memory) => if told {
+            Err(status_in(plan, failed, doubt))
         } else {
             Err(RunStatus::Memory)
         },
         other => other,
+    }
+}
+
+/// What is answered in doubt: a killed key only where the script takes workers away as often or a feed has failed, and that no worker is left only
+/// where a feed has.
+#[tactic(auto, using(crate::proofs::Failing::cause_there))]
+fn status_in(plan: &RunPlan, failed: bool, doubt: Doubt) -> RunStatus
+    ensures { IsDecided plan.now (failed ≡ true) doubt result }
+{
+    match doubt {
+        Doubt::Memory => RunStatus::Memory,
+        Doubt::GivenUp => if failed {
+            RunStatus::Read
+        } else {
+            RunStatus::Memory
+        },
+        Doubt::Killed { key, losses } => {
+            let is_there = plan.removes(losses) | failed;
+            if is_there {
+                RunStatus::Killed { key, losses }
+            } else {
+                RunStatus::Memory
+            }
+        }
     }
 }
 

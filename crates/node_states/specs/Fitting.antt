@@ -1,5 +1,5 @@
 -- What of a node fits the label of its run, beside the blocks that it holds and the packets that wait.
-use Rattle.std.specs.Prelude.{◌≡◌, ℕ, true, List, Some, All}
+use Rattle.std.specs.Prelude.{◌≡◌, ℕ, true, false, List, Some, All}
 use Rattle.cluster_msgs.specs.Shape.{deps_of}
 use Rattle.cluster_msgs.specs.Labels.{LabelFacts, ErrorFits, BlameFits, UpFits, ToClientFits}
 use Rattle.cluster_msgs.specs.declared.messages.ToClient.{ToClient}
@@ -11,14 +11,15 @@ use Rattle.cluster_msgs.specs.declared.cores.ClientEvent.{ClientEvent}
 use Rattle.cluster_msgs.specs.declared.cores.ClientEvent.TheVariants.{FromScheduler}
 use Rattle.cluster_msgs.specs.declared.cores.Instruction.{Instruction}
 use Rattle.cluster_msgs.specs.declared.cores.Instruction.TheVariants.{Send}
-use Rattle.cluster_rules.specs.Sched.{Facts}
+use Rattle.cluster_rules.specs.Sched.{Facts, is_above}
 use Rattle.cluster_rules.specs.Client.{ClientFacts}
 
 module _ {B : Type 0} (facts : LabelFacts B) where
-  -- the scheduler goes by the label's graph, and each key that it counts as bad is faulty
+  -- the scheduler goes by the label's graph and by what it allows, and each key that it counts as bad is faulty, or has lost its worker more often
   pub record SchedFits (f : Facts) : Type 0 where
     pub graph : facts.deps ≡ deps_of f.setting.shape
-    pub bad : (k : ℕ) → f.bad k ≡ true → ErrorFits facts k
+    pub allowed : facts.allowed ≡ f.setting.allowed
+    pub bad : (k : ℕ) → f.bad k ≡ true → is_above f.setting.allowed (f.losses k) ≡ false → ErrorFits facts k
 
   -- each failure that a client was told has a blame that fits
   pub record ClientFits (c : ClientFacts) : Type 0 where

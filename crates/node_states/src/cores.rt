@@ -1,7 +1,9 @@
 //! The three cores, as a book has them.
-ghost use Rattle.std.specs.Prelude.{◌≡◌, false};
+ghost use Rattle.std.specs.Prelude.{◌≡◌, false, true, IfSome};
+ghost use Rattle.cluster_msgs.specs.Labels.{ErrorFits};
 ghost use Rattle.cluster_msgs.specs.Shape.{deps_of};
 ghost use Rattle.scheduler_core.specs.Cores.{facts};
+ghost use Rattle.scheduler_core.specs.Killed.{IsKilled};
 ghost use Rattle.node_states.specs.Opening.{IsOpening};
 
 use crate::choice::Plan;
@@ -9,6 +11,7 @@ use crate::evidence::{ClientCause, SchedCause, SchedOut, WorkerCause, WorkerOut}
 use cluster_msgs::{ClientOut, Instructions, Label, Outbox, Stop};
 use gather_client::ClientCore;
 use node_links::Machine;
+use sched_changes::is_above;
 use scheduler_core::Sched;
 use std::alloc::Global;
 use std::marker::{Model, PhantomData};
@@ -19,8 +22,8 @@ pub const SCHEDULER_BYTES: u64 = 1 << 28;
 
 pub const NODE_BYTES: u64 = 1 << 25;
 
-/// The scheduler's core, with what its node goes by. As long as memory doesn't end inside it (`torn`), it goes by the label's graph, and each key
-/// that it counts as bad is faulty.
+/// The scheduler's core, with what its node goes by. As long as memory doesn't end inside it (`torn`), it goes by the label's graph and by what the
+/// label allows, and each key that it counts as bad is faulty, or its worker left more often than is allowed.
 #[derive(Drop)]
 pub struct SchedulingCore<L: Label> {
     alloc: Global,
@@ -49,6 +52,7 @@ impl<L: Label> SchedulingCore<L> {
     pub fn new(alloc: Global, core: Sched, plan: Plan) -> Self
         requires opening { IsOpening (facts core) }
         requires graph { L.facts.deps ≡ deps_of (facts core).setting.shape }
+        requires allowed { L.facts.allowed ≡ (facts core).setting.allowed }
         ensures { result ≡ record { core = core; plan = plan; torn = false } }
     {
         SchedulingCore {
@@ -65,6 +69,28 @@ impl<L: Label> SchedulingCore<L> {
         ensures { result.now ≡ self.now.core }
     {
         &self.core
+    }
+
+    /// Whether the key has an error of its own that isn't of its losses, as long as memory didn't end inside the core. Where the run is told, its
+    /// operation meets a zero divisor then.
+    #[tactic(auto, using(crate::proofs::SchedLaw::at_fault))]
+    pub fn is_at_fault(&self, key: u32) -> bool
+        ensures { result ≡ true → ErrorFits L.facts key }
+    {
+        let is_bad = self.core.is_bad(key);
+        let is_above = is_above(self.core.allowed(), self.core.losses(key));
+        !self.torn & is_bad & !is_above
+    }
+
+    /// How often the key's worker left, where the key was killed and memory didn't end inside the core: once more than the label allows.
+    pub fn killed(&self, key: u32) -> Option<u32>
+        ensures killed { IfSome result (IsKilled (facts self.now.core) key) }
+        ensures allowed { IfSome result (λ _. L.facts.allowed ≡ (facts self.now.core).setting.allowed) }
+    {
+        if self.torn {
+            return None;
+        }
+        self.core.killed(key)
     }
 
     /// What its node goes by.

@@ -18,7 +18,8 @@ pub fn workers_err_after_zero_divisors<L: Label>()
     ensures { (w : WorkerFacts) (e : WorkerEvent) → WorkerEventFits L.facts e → InstructionsFit L.facts (worker_step w e).out }
 {}
 
-/// Where the bad keys of a scheduler are faulty, each blame that it tells is faulty and in the cone of the key that failed.
+/// Where the bad keys of a scheduler are faulty or have lost more workers than are allowed, each blame that it tells is in the cone of the key that
+/// failed, and faulty where losses aren't bounded.
 #[tactic(auto, using(crate::proofs::SchedLaw::letters_fit))]
 pub fn blames_are_faulty<L: Label>()
     ensures { (f : Facts) (e : SchedEvent) → IsShape f.setting.shape → SchedEventFits L.facts e → SchedFits L.facts f → LettersFit L.facts (sched_step f e).clients }

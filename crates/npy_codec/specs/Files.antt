@@ -35,7 +35,9 @@ fixed_len bytes = fixed_of (slice_index bytes 6)
 
 -- the length of the header in bytes, as the fixed bytes give it in little-endian order
 abbrev pub text_len_of : ℕ → List ℕ → ℕ
-text_len_of major bytes = slice_index bytes 8 + 256 * slice_index bytes 9 + cond (nat_eq major 1) 0 (65536 * slice_index bytes 10 + 16777216 * slice_index bytes 11)
+text_len_of major bytes =
+    slice_index bytes 8 + 256 * slice_index bytes 9
+    + cond (nat_eq major 1) 0 (65536 * slice_index bytes 10 + 16777216 * slice_index bytes 11)
 
 abbrev pub text_len_at : List ℕ → ℕ
 text_len_at bytes = text_len_of (slice_index bytes 6) bytes

@@ -1,4 +1,4 @@
-// Why a file isn't read.
+//! Why a file isn't read.
 ghost use Rattle.std.specs.Prelude.{◌≡◌, Some};
 ghost use Rattle.npy_codec.specs.Files.{error_text};
 ghost use Rattle.npy_codec.specs.declared.error.NpyError.TheVariants.{ReadFault, OutOfMemory};

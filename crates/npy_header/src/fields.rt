@@ -1,4 +1,4 @@
-// What a header says, and why it is refused.
+//! What a header says, and why it is refused.
 ghost use Rattle.std.specs.Prelude.{◌≡◌};
 ghost use Rattle.npy_header.specs.declared.fields.HeaderError.TheVariants.{OutOfMemory};
 

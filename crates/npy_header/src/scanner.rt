@@ -1,4 +1,4 @@
-// What is kept of a header while it is read.
+//! What is kept of a header while it is read.
 ghost use Rattle.std.specs.Prelude.{◌≡◌, ◌+◌, ◌-◌, ◌*◌, OnOk};
 ghost use Rattle.npy_header.specs.Scans.{after_action, fields_of, fresh};
 ghost use Rattle.npy_header.specs.Reading.{cap, after_byte_capped, after_actions};

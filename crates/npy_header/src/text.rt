@@ -1,4 +1,4 @@
-// The reader of a header's bytes.
+//! The reader of a header's bytes.
 ghost use Rattle.std.specs.Prelude.{◌≡◌, ◌∷◌, ◌++◌, [], List, ℕ, true, false, Ok, Some, None, IfOk, IfErr, OnOk};
 ghost use Rattle.grammar.specs.Tables.{grammar_of, moves_end};
 ghost use Rattle.grammar.specs.Runs.{RefusesNext};
@@ -43,7 +43,8 @@ fn take_byte(
 ) -> Result<bool, AllocError>
     requires { reader.old.table ≡ rows_of wide }
     ensures table { reader.new.table ≡ rows_of wide }
-    ensures taken { result ≡ Ok true → (w : List ℕ) → IsReading wide w reader.old.left scanner.old → IsReading wide (w ++ byte ∷ []) reader.new.left scanner.new }
+    ensures taken { result ≡ Ok true → (w : List ℕ) → IsReading wide w reader.old.left scanner.old
+        → IsReading wide (w ++ byte ∷ []) reader.new.left scanner.new }
     ensures refused { result ≡ Ok false → RefusesNext (grammar_of (rows_of wide)) kind_of reader.old.left (Some (kind_of byte)) }
 {
     let _ = wide;

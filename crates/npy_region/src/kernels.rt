@@ -1,4 +1,4 @@
-// How elements of each type are read, with a loop of its own for each.
+//! How elements of each type are read, with a loop of its own for each.
 ghost use Rattle.std.specs.Prelude.{◌≡◌, ◌≤◌, ◌<◌, ◌++◌, ◌/◌, true, false, length, OnOk};
 ghost use Rattle.npy_codec.specs.Npy.{wide_cell};
 ghost use Rattle.npy_codec.specs.Regions.{IsWidth};

@@ -1,4 +1,4 @@
-// The byte runs of a file that hold a region.
+//! The byte runs of a file that hold a region.
 ghost use Rattle.std.specs.Prelude.{◌≡◌, ◌≤◌, ◌<◌, ◌+◌, ◌*◌, ◌^◌, [], None, IfOk, IfSome, OnOk};
 ghost use Rattle.nd_shape.specs.Region.{IsPart};
 ghost use Rattle.npy_codec.specs.Regions.{IsWidth, number_at};

@@ -1,4 +1,4 @@
-// Writes blocks into regions of a file's array.
+//! Writes blocks into regions of a file's array.
 ghost use Rattle.std.specs.Prelude.{◌≡◌, ◌≤◌, ◌<◌, ◌+◌, ◌*◌, ◌/◌, ◌^◌, false, length, take, drop, map, OnOk, OnErr};
 ghost use Rattle.io_edge.specs.Cause.{HasOpenCause};
 ghost use Rattle.io_edge.specs.Content.{overwritten, size_of, WritesPart};

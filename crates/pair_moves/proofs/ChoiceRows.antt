@@ -79,6 +79,7 @@ resting_marked : (f : Facts) → IsSettled f → (c : Steal) → IsStealChoice f
 unfolding known need ready held erred wanted
 resting_marked f t c h = record {
   bad = t.errors_are_known;
+  losses = t.losses_are_known;
   has = t.held_are_needed;
   on = t.placed_are_ready;
   steal = λ k e. pick k (eqb k c.key) refl e;
@@ -160,7 +161,7 @@ balanced_other f c w k s sound t n h other = calm_row f (balanced f (Some c)) w 
         pick true = (ap (λ b. cond b (Ask p.1) Other) i, tt)
         pick false = tt
 
-balanced_with : (f : Facts) (c : Steal) (w k : ℕ) (s : Side) → IsSound f → IsSettled f → IsNumbered f → IsStealChoice f c → IsFramed f 0 (marked f c) → IsSound (marked f c) → k < keys f → connected f w ≡ true → Keeps f (balanced f (Some c)) w k s
+balanced_with : (f : Facts) (c : Steal) (w k : ℕ) (s : Side) → IsSound f → IsSettled f → IsNumbered f → IsStealChoice f c → IsFramed f 0 (λ k. false) (marked f c) → IsSound (marked f c) → k < keys f → connected f w ≡ true → Keeps f (balanced f (Some c)) w k s
 balanced_with f c w k s sound t n h frame after low there = pick (eqb c.victim w) refl (eqb c.key k) refl
   where
     on_it : (o : Option (ℕ × ℕ)) → is_for w o ≡ true → (a : ℕ) × (o ≡ Some (w, a))
@@ -174,7 +175,7 @@ balanced_with f c w k s sound t n h frame after low there = pick (eqb c.victim w
     pick true i false j = plain_keeps f (balanced f (Some c)) w k Quiet s n frame after low there (balanced_other f c w k s sound t n h (inr j))
     pick false i d j = plain_keeps f (balanced f (Some c)) w k Quiet s n frame after low there (balanced_other f c w k s sound t n h (inl i))
 
-pub balanced_keeps : (f : Facts) (o : Option Steal) (w k : ℕ) (s : Side) → IsSound f → IsSettled f → IsNumbered f → IsLeastOf (steal_rank f) (steal_choices f) o → IsFramed f 0 (balanced f o).facts → IsSound (balanced f o).facts → k < keys f → connected (balanced f o).facts w ≡ true → Keeps f (balanced f o) w k s
+pub balanced_keeps : (f : Facts) (o : Option Steal) (w k : ℕ) (s : Side) → IsSound f → IsSettled f → IsNumbered f → IsLeastOf (steal_rank f) (steal_choices f) o → IsFramed f 0 (λ k. false) (balanced f o).facts → IsSound (balanced f o).facts → k < keys f → connected (balanced f o).facts w ≡ true → Keeps f (balanced f o) w k s
 balanced_keeps f None w k s sound t n h frame after low there = plain_keeps f (plain f) w k Quiet s n frame after low there (calm_row f (plain f) w k Quiet s sound t n (quiet_calm f (plain f) w k s (same_moved f f t k refl refl) (inl (refl, refl)) refl refl (λ x. tt)))
 balanced_keeps f (Some c) w k s sound t n h frame after low there = balanced_with f c w k s sound t n (steal_choice_from f c h.member) frame after low there
 
@@ -262,6 +263,7 @@ resting_dropped : (f : Facts) → IsSound f → IsSettled f → (v q : ℕ) → 
 unfolding known wanted
 resting_dropped f sound t v q d = record {
   bad = t.errors_are_known;
+  losses = t.losses_are_known;
   has = λ w k e. ap (λ (p : ℕ → Bool). p k) (same_derived f sound v q d).0 ∙ t.held_are_needed w k (is_some_cond (eqb w v && eqb k q) (f.has w k) e);
   on = λ k e. ap (λ (p : ℕ → Bool). p k) (same_derived f sound v q d).1 ∙ t.placed_are_ready k e;
   steal = λ k e. ap (λ (p : ℕ → Bool). p k) (same_derived f sound v q d).1 ∙ t.placed_are_ready k (t.stolen_are_placed k e);
@@ -330,18 +332,18 @@ evicted_other f v q w k s sound t n other = calm_row f _ w k Quiet s sound t n (
         pick true = (ap (λ b. cond (b || false) Remove Other) e, tt)
         pick false = tt
 
-evicted_with : (f : Facts) (v q w k : ℕ) (s : Side) → IsSound f → IsSettled f → IsNumbered f → IsDrop f v q → IsFramed f 0 (dropped f v q) → IsSound (dropped f v q) → k < keys f → connected f w ≡ true → Keeps f (evicted f (Some (v, q))) w k s
+evicted_with : (f : Facts) (v q w k : ℕ) (s : Side) → IsSound f → IsSettled f → IsNumbered f → IsDrop f v q → IsFramed f 0 (λ k. false) (dropped f v q) → IsSound (dropped f v q) → k < keys f → connected f w ≡ true → Keeps f (evicted f (Some (v, q))) w k s
 evicted_with f v q w k s sound t n d frame after low there = pick (eqb v w) refl (eqb q k) refl
   where
     pick : (b : Bool) → eqb v w ≡ b → (c : Bool) → eqb q k ≡ c → Keeps f (evicted f (Some (v, q))) w k s
     pick true i true j = subst (λ (x : ℕ × ℕ). Keeps f (evicted f (Some x)) w k s) (λ y. (sym (eqb-true v w i) y, sym (eqb-true q k j) y))
-        (row_keeps {joining = 0} f (evicted f (Some (w, k))) (holds f w k) false w k Quiet s
-        (record { setting = refl; counter = omega arith; sent = refl; fence = refl; last_worker = omega arith; threads = λ i e l. e })
+        (row_keeps {joining = 0} {losing = λ k. false} f (evicted f (Some (w, k))) (holds f w k) false w k Quiet s
+        (record { setting = refl; counter = omega arith; sent = refl; fence = refl; last_worker = omega arith; bad = λ k e. e; losses = λ k. refl; threads = λ i e l. e })
         (subst (λ (x : ℕ × ℕ). IsSound (dropped f x.0 x.1)) (λ y. (eqb-true v w i y, eqb-true q k j y)) after) low there
         (evicted_own f w k s sound t n (subst (λ (x : ℕ × ℕ). IsDrop f x.0 x.1) (λ y. (eqb-true v w i y, eqb-true q k j y)) d)))
     pick true i false j = plain_keeps f (evicted f (Some (v, q))) w k Quiet s n frame after low there (evicted_other f v q w k s sound t n (inr j))
     pick false i c j = plain_keeps f (evicted f (Some (v, q))) w k Quiet s n frame after low there (evicted_other f v q w k s sound t n (inl i))
 
-pub evicted_keeps : (f : Facts) (o : Option (ℕ × ℕ)) (w k : ℕ) (s : Side) → IsSound f → IsSettled f → IsNumbered f → IsDropOf f o → IsFramed f 0 (evicted f o).facts → IsSound (evicted f o).facts → k < keys f → connected (evicted f o).facts w ≡ true → Keeps f (evicted f o) w k s
+pub evicted_keeps : (f : Facts) (o : Option (ℕ × ℕ)) (w k : ℕ) (s : Side) → IsSound f → IsSettled f → IsNumbered f → IsDropOf f o → IsFramed f 0 (λ k. false) (evicted f o).facts → IsSound (evicted f o).facts → k < keys f → connected (evicted f o).facts w ≡ true → Keeps f (evicted f o) w k s
 evicted_keeps f None w k s sound t n d frame after low there = plain_keeps f (plain f) w k Quiet s n frame after low there (calm_row f (plain f) w k Quiet s sound t n (quiet_calm f (plain f) w k s (same_moved f f t k refl refl) (inl (refl, refl)) refl refl (λ x. tt)))
 evicted_keeps f (Some (v, q)) w k s sound t n d frame after low there = evicted_with f v q w k s sound t n d frame after low there

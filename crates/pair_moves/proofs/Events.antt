@@ -5,7 +5,7 @@ use Rattle.std.proofs.lemmas.Bool.{and_parts}
 use Rattle.std.proofs.Math.Dec.{eqb}
 use Rattle.std.proofs.lemmas.Option.{none-some}
 use Rattle.cluster_msgs.specs.declared.cores.SchedEvent.{SchedEvent}
-use Rattle.cluster_msgs.specs.declared.cores.SchedEvent.TheVariants.{Join, Leave, FromWorker, FromClient, Balance, Evict}
+use Rattle.cluster_msgs.specs.declared.cores.SchedEvent.TheVariants.{Join, Leave, FromWorker, FromClient, Balance, Evict, Replicate}
 use Rattle.cluster_msgs.specs.declared.messages.Up.{Up}
 use Rattle.cluster_msgs.specs.declared.messages.Up.TheVariants.{TaskFinished, TaskErred, AddKeys, ReleaseWorkerData, MissingData, RequestRefreshWhoHas, StealResponse}
 use Rattle.cluster_msgs.specs.declared.messages.FromClient.{FromClient as FromClientMessage}
@@ -22,7 +22,7 @@ use Rattle.cluster_rules.proofs.SoundStep.{sound_changed}
 use Rattle.cluster_laws.specs.Settled.{IsSettled}
 use Rattle.pair_machine.specs.Pair.{Quiet}
 use Rattle.pair_moves.specs.Projection.{report_of, report_in, Side, IsNumbered, EventKeeps}
-use Rattle.pair_moves.proofs.Rows.{Moved, moved_below, IsPlain, plain_keeps, calm_row, quiet_calm, same_moved, refreshed_plain}
+use Rattle.pair_moves.proofs.Rows.{Moved, moved_below, IsPlain, plain_keeps, calm_row, quiet_calm, same_moved, refreshed_plain, copied_plain}
 use Rattle.cluster_laws.proofs.Framed.{change_framed}
 use Rattle.pair_moves.proofs.TaskRows.{moved_where, moved_finished, moved_failed, moved_answered, finished_row, failed_row, answered_row}
 use Rattle.pair_moves.proofs.HoldRows.{left_plain, released_row, lost_row, add_row}
@@ -84,6 +84,9 @@ event_keeps f Balance sound t n h w k s low there p =
     balanced_keeps f (next_steal f) w k s sound t n (least_by_least (steal_rank f) (steal_choices f)) (change_framed f Balance) (sound_changed f sound Balance h) low (connected_then f Balance w there) p
 event_keeps f Evict sound t n h w k s low there p =
     evicted_keeps f (next_drop f) w k s sound t n (next_drop_is f) (change_framed f Evict) (sound_changed f sound Evict h) low (connected_then f Evict w there) p
+event_keeps f (Replicate q v) sound t n h w k s low there p =
+    plain_keeps f (change f (Replicate q v)) w k Quiet s n (change_framed f (Replicate q v)) (sound_changed f sound (Replicate q v) h) low (connected_then f (Replicate q v) w there)
+    (copied_plain f w k v q s (calm_row f (plain f) w k Quiet s sound t n (quiet_calm f (plain f) w k s (same_moved f f t k refl refl) (inl (refl, refl)) refl refl (λ x. tt)))) p
 
 -- ## Attempts that were given
 
@@ -129,6 +132,7 @@ moved_change f t (FromWorker v m) k = moved_up f t v m k
 moved_change f t (FromClient c m) k = moved_client f t c m k
 moved_change f t Balance k = moved_balanced f t (next_steal f) (least_by_least (steal_rank f) (steal_choices f)) k
 moved_change f t Evict k = moved_evicted f t (next_drop f) k
+moved_change f t (Replicate q v) k = same_moved f f t k refl refl
 
 pub numbered_step : (f : Facts) (e : SchedEvent) → IsSettled f → IsNumbered f → IsNumbered (sched_step f e).facts
 numbered_step f e t n = record {

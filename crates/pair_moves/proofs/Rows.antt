@@ -6,9 +6,9 @@ use Rattle.std.proofs.Math.Bool.{and-false}
 use Rattle.std.proofs.lemmas.Option.{none-some}
 use Rattle.small_facts.proofs.Options.{same_second}
 use Rattle.small_facts.proofs.Truth.{with_and_true, or_first_false, and_first}
-use Rattle.cluster_msgs.specs.declared.messages.Down.TheVariants.{RefreshWhoHas}
+use Rattle.cluster_msgs.specs.declared.messages.Down.TheVariants.{AcquireReplicas, RefreshWhoHas}
 use Rattle.cluster_rules.specs.Sched.{Facts, IsSound, keys, holds, held, connected, is_on, is_for}
-use Rattle.cluster_rules.specs.SchedTable.{is_this, is_asked_back, Changed, refreshed}
+use Rattle.cluster_rules.specs.SchedTable.{is_this, is_asked_back, Changed, plain, refreshed, copied}
 use Rattle.cluster_rules.specs.SchedStep.{settle, finish_step, lost, mail}
 use Rattle.cluster_laws.specs.Settled.{IsSettled}
 use Rattle.cluster_laws.proofs.Framed.{IsFramed}
@@ -94,7 +94,7 @@ pub record IsRow (f : Facts) (g : Changed) (copy was : Bool) (w k : ℕ) (r : Re
   pub asked : g.freed w k ≡ false → still_asked (pair_of f w k s) r ≡ was
   pub closes : Closes (settle f g) copy was w k
 
-pub row_keeps : {joining : ℕ} (f : Facts) (g : Changed) (has was : Bool) (w k : ℕ) (r : Report) (s : Side) → IsFramed f joining g.facts → IsSound g.facts → k < keys f → connected g.facts w ≡ true → IsRow f g has was w k r s
+pub row_keeps : {joining : ℕ} {losing : ℕ → Bool} (f : Facts) (g : Changed) (has was : Bool) (w k : ℕ) (r : Report) (s : Side) → IsFramed f joining losing g.facts → IsSound g.facts → k < keys f → connected g.facts w ≡ true → IsRow f g has was w k r s
     → IsPair (record (pair_of f w k s) { up = r ∷ reports k s.up }) → IsPair (pair_of (finish_step (settle f g)).facts w k (record s { down = s.down ++ mail w (finish_step (settle f g)).down }))
 unfolding settle
 row_keeps f g has was w k r s frame sound low there row p =
@@ -127,7 +127,7 @@ pub record IsPlain (f : Facts) (g : Changed) (w k : ℕ) (r : Report) (s : Side)
   pub has : g.freed w k ≡ false → (counted (pair_of f w k s) r).0 ≡ holds g.facts w k
   pub silent : (x : Facts) → AreOther (notes k (g.answer x w))
 
-pub plain_keeps : {joining : ℕ} (f : Facts) (g : Changed) (w k : ℕ) (r : Report) (s : Side) → IsNumbered f → IsFramed f joining g.facts → IsSound g.facts → k < keys f → connected g.facts w ≡ true → IsPlain f g w k r s
+pub plain_keeps : {joining : ℕ} {losing : ℕ → Bool} (f : Facts) (g : Changed) (w k : ℕ) (r : Report) (s : Side) → IsNumbered f → IsFramed f joining losing g.facts → IsSound g.facts → k < keys f → connected g.facts w ≡ true → IsPlain f g w k r s
     → IsPair (record (pair_of f w k s) { up = r ∷ reports k s.up }) → IsPair (pair_of (finish_step (settle f g)).facts w k (record s { down = s.down ++ mail w (finish_step (settle f g)).down }))
 plain_keeps f g w k r s n frame sound low there row p =
     row_keeps f g (holds g.facts w k) (is_some (old_at f.counter w (g.facts.on k)) && is_asked_back (g.facts.steal k)) w k r s frame sound low there (record {
@@ -186,6 +186,23 @@ refreshed_plain f g w k v q r s p = record {
 }
   where
     none : (b : Bool) (ws : List (ℕ × List (ℕ × ℕ))) → AreOther (notes k (cond b (RefreshWhoHas ws ∷ []) []))
+    none true ws = (refl, tt)
+    none false ws = tt
+
+-- and neither does the answer that a worker is to get a copy
+pub copied_plain : (f : Facts) (w k v q : ℕ) (s : Side) → IsPlain f (plain f) w k Quiet s → IsPlain f (copied f q v) w k Quiet s
+copied_plain f w k v q s p = record {
+  moved = p.moved;
+  on = p.on;
+  asked = p.asked;
+  freed = p.freed;
+  gone = p.gone;
+  alone = p.alone;
+  has = p.has;
+  silent = λ x. none (eqb w v) _;
+}
+  where
+    none : (b : Bool) (ws : List (ℕ × List (ℕ × ℕ))) → AreOther (notes k (cond b (AcquireReplicas ws ∷ []) []))
     none true ws = (refl, tt)
     none false ws = tt
 

@@ -5,7 +5,7 @@ use Rattle.cluster_msgs.specs.declared.messages.Down.TheVariants.{ComputeTask, F
 use Rattle.cluster_msgs.specs.declared.messages.Up.{Up}
 use Rattle.cluster_msgs.specs.declared.messages.Up.TheVariants.{TaskFinished, TaskErred, AddKeys, ReleaseWorkerData, MissingData, RequestRefreshWhoHas, StealResponse}
 use Rattle.cluster_msgs.specs.declared.cores.SchedEvent.{SchedEvent}
-use Rattle.cluster_msgs.specs.declared.cores.SchedEvent.TheVariants.{Join, Leave, FromWorker, FromClient, Balance, Evict}
+use Rattle.cluster_msgs.specs.declared.cores.SchedEvent.TheVariants.{Join, Leave, FromWorker, FromClient, Balance, Evict, Replicate}
 use Rattle.cluster_rules.specs.Derived.{is_in}
 use Rattle.cluster_rules.specs.Sched.{Facts, keys, connected, holds}
 use Rattle.cluster_rules.specs.SchedStep.{sched_step, mail}
@@ -78,6 +78,7 @@ report_in (FromWorker v m) w k = cond (v == w) (report_of k m) Quiet
 report_in (FromClient c m) w k = Quiet
 report_in Balance w k = Quiet
 report_in Evict w k = Quiet
+report_in (Replicate q v) w k = Quiet
 
 -- an event of the scheduler keeps what holds of the pair of a worker that stays connected, and takes the message that it is about
 abbrev pub EventKeeps : Facts → SchedEvent → Type 0

@@ -1,4 +1,4 @@
-// The elements of a region of a node, over files.
+//! The elements of a region of a node, over files.
 ghost use Rattle.std.specs.Prelude.{◌≡◌, ◌≤◌, ◌<◌, ◌+◌, length, IfOk, IfErr, OnOk, IsErrOf};
 ghost use Rattle.io_edge.specs.Cause.{Rose};
 ghost use Rattle.nd_shape.specs.Region.{IsPart};

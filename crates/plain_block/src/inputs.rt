@@ -1,4 +1,4 @@
-// Reads what is needed of the arrays of inputs.
+//! Reads what is needed of the arrays of inputs.
 ghost use Rattle.std.specs.Prelude.{◌≡◌, ◌≤◌, ◌<◌, ◌-◌, ◌^◌, length, true, Some, IfOk, IfErr, OnOk, OnErr, IsErrOf};
 ghost use Rattle.io_edge.specs.Cause.{Rose};
 ghost use Rattle.io_edge.specs.Content.{file_at, size_of};

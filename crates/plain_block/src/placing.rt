@@ -1,4 +1,4 @@
-// Parts of arrays, put where they belong.
+//! Parts of arrays, put where they belong.
 ghost use Rattle.std.specs.Prelude.{◌≡◌, ◌<◌, ◌+◌, length, IfOk};
 ghost use Rattle.nd_shape.specs.Shape.{elements};
 ghost use Rattle.nd_shape.specs.Region.{IsPart};

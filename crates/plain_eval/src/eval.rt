@@ -1,4 +1,4 @@
-// The array of one node over those before it.
+//! The array of one node over those before it.
 ghost use Rattle.std.specs.Prelude.{◌≡◌, ◌<◌, ◌+◌, ◌++◌, [], ◌∷◌, length, take, cond, IfOk, OnOk};
 ghost use Rattle.nd_grid.specs.Grid.{sliced, sliced_shape, reduced, kept_shape, folded_shape, contracted};
 ghost use Rattle.array_expr.specs.Node.{IsExpression, dropped};

@@ -1,4 +1,4 @@
-// Arrays of which elements may be missing.
+//! Arrays of which elements may be missing.
 ghost use Rattle.std.specs.Prelude.{◌≡◌, ◌<◌, length, map, IfOk};
 ghost use Rattle.std.specs.List.{range_with_len};
 ghost use Rattle.nd_shape.specs.Shape.{IsShape, elements};

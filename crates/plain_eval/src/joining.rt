@@ -1,4 +1,4 @@
-// The formula of a concatenation.
+//! The formula of a concatenation.
 ghost use Rattle.std.specs.Prelude.{◌≡◌, ◌<◌, map};
 ghost use Rattle.nd_shape.specs.Index.{IsIn};
 ghost use Rattle.nd_grid.specs.Grid.{concatenated};

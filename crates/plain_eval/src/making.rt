@@ -1,4 +1,4 @@
-// Formulas without operands, and parts of arrays.
+//! Formulas without operands, and parts of arrays.
 ghost use Rattle.std.specs.Prelude.{◌≡◌, ◌<◌, ◌^◌, pos, ◌+ℤ◌, ◌*ℤ◌};
 ghost use Rattle.nd_grid.specs.Int64.{wrap};
 

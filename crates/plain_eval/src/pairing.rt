@@ -1,4 +1,4 @@
-// Formulas over operands element by element.
+//! Formulas over operands element by element.
 use crate::held::{Held, element_under};
 use array_expr::NodeId;
 use nd_grid::operation::{combine, pick};

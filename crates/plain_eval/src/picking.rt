@@ -1,4 +1,4 @@
-// Formulas over one operand.
+//! Formulas over one operand.
 ghost use Rattle.std.specs.Prelude.{◌≡◌, ◌<◌, length};
 ghost use Rattle.nd_shape.specs.Shape.{elements};
 ghost use Rattle.nd_shape.specs.Index.{IsIn, index_at};

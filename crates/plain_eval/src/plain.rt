@@ -1,4 +1,4 @@
-// The elements of a region of a node.
+//! The elements of a region of a node.
 ghost use Rattle.std.specs.Prelude.{◌≡◌, ◌<◌, ◌≤◌, ◌+◌, ◌^◌, length, take, IfOk};
 ghost use Rattle.nd_shape.specs.Region.{IsPart};
 ghost use Rattle.array_expr.specs.Node.{IsExpression, shape_at};

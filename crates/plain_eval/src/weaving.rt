@@ -1,4 +1,4 @@
-// Indexes of the operands of a product over paired axes.
+//! Indexes of the operands of a product over paired axes.
 ghost use Rattle.std.specs.Prelude.{◌≡◌, ◌<◌, ◌≤◌, ◌+◌, ◌^◌, length, cond, slice_index, nat_eq, true, false};
 ghost use Rattle.std.specs.List.{position_or_len};
 ghost use Rattle.nd_grid.specs.Grid.{is_among, kept_shape, woven};

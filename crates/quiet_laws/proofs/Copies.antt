@@ -13,7 +13,7 @@ use Rattle.cluster_rules.specs.Worker.{Ask as OpenAsk, WorkerFacts, awaited, is_
 use Rattle.cluster_rules.specs.WorkerStep.{WorkerStep, quiet, after_out, each_key, taken, set_holders, into_mem, give_up, given, free_key, yields, asked_back, remove_replica, remove_replicas, acquire, refresh, take_down, start, Arrivals, arrive_as, arrive, arrived, stopped, erred_as, done, keys_of, ask_peer, lose_holders, not_found, answered_ask, gathered_by, gathered, worker_row, worker_step}
 use Rattle.cluster_msgs.specs.declared.messages.ToClient.{ToClient}
 use Rattle.cluster_msgs.specs.declared.cores.SchedEvent.{SchedEvent}
-use Rattle.cluster_msgs.specs.declared.cores.SchedEvent.TheVariants.{Join as JoinSched, Leave, FromWorker, FromClient, Balance as BalanceSched, Evict as EvictSched}
+use Rattle.cluster_msgs.specs.declared.cores.SchedEvent.TheVariants.{Join as JoinSched, Leave, FromWorker, FromClient, Balance as BalanceSched, Evict as EvictSched, Replicate as ReplicateSched}
 use Rattle.cluster_msgs.specs.declared.cores.ClientEvent.{ClientEvent}
 use Rattle.cluster_msgs.specs.declared.cores.ClientEvent.TheVariants.{Want as WantKeys, Release as ReleaseKeys, FromScheduler, Ask as ClientAsk, Gathered as ClientGathered, GatherFailed as ClientGatherFailed}
 use Rattle.std.specs.Prelude.{nat_le}
@@ -90,6 +90,10 @@ module _ (N : ℕ) where
   refresh_named x l k true = (who_named x l (k ∷ []), tt)
   refresh_named x l k false = tt
 
+  acquire_named : (x : Facts) → HasBelow N x → (k : ℕ) (b : Bool) → AllByRecursion (IsOldDown N) (cond b (AcquireReplicas (who_has x (k ∷ [])) ∷ []) [])
+  acquire_named x l k true = (who_named x l (k ∷ []), tt)
+  acquire_named x l k false = tt
+
   ask_named : (q : ℕ) (o : Option (ℕ × ℕ)) (w : ℕ) → AllByRecursion (IsOldDown N) (ask_message q o w)
   ask_named q None w = tt
   ask_named q (Some p) w = pick (eqb p.0 w)
@@ -133,6 +137,7 @@ module _ (N : ℕ) where
   answers_named f (FromClient c (MissingMessage k y n)) x l w = lost_named f y k n x l w
   answers_named f BalanceSched x l w = balanced_named f (next_steal f) x l w
   answers_named f EvictSched x l w = evicted_named f (next_drop f) x l w
+  answers_named f (ReplicateSched k v) x l w = acquire_named x l k (eqb w v)
 
   pub down_named : (f : Facts) (s : SchedEvent) → HasBelow N (sched_step f s).facts → DownNamed (sched_step f s).down
   unfolding sched_step finish_step posted down_messages to_worker task_messages settle

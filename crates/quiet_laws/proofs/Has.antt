@@ -7,7 +7,7 @@ use Rattle.cluster_msgs.specs.declared.cores.Steal.{Steal}
 use Rattle.cluster_msgs.specs.declared.messages.Up.TheVariants.{TaskFinished, TaskErred, AddKeys, ReleaseWorkerData, MissingData, RequestRefreshWhoHas, StealResponse}
 use Rattle.cluster_msgs.specs.declared.messages.FromClient.TheVariants.{Want as WantMessage, Release as ReleaseMessage, Missing as MissingMessage}
 use Rattle.cluster_msgs.specs.declared.cores.SchedEvent.{SchedEvent}
-use Rattle.cluster_msgs.specs.declared.cores.SchedEvent.TheVariants.{Join, Leave, FromWorker, FromClient, Balance, Evict}
+use Rattle.cluster_msgs.specs.declared.cores.SchedEvent.TheVariants.{Join, Leave, FromWorker, FromClient, Balance, Evict, Replicate}
 use Rattle.cluster_rules.specs.Functions.{put, put_pair}
 use Rattle.cluster_rules.specs.Sched.{Facts, holds, held, is_on, connected}
 use Rattle.cluster_rules.specs.Policies.{next_steal, next_drop}
@@ -131,6 +131,7 @@ drawn_change f (FromClient c (ReleaseMessage ks)) h = h
 drawn_change f (FromClient c (MissingMessage k x n)) h = drawn_lost f x k n h
 drawn_change f Balance h = drawn_balanced f (next_steal f) h
 drawn_change f Evict h = drawn_evicted f (next_drop f) h
+drawn_change f (Replicate k w) h = h
 
 pub drawn_step : (f : Facts) (s : SchedEvent) → HasBelow f.counter f → HasBelow (sched_step f s).facts.counter (sched_step f s).facts
 drawn_step f s h x k c e = let z = step_settles f s in let l : c < (change f s).facts.counter = drawn_change f s h x k c (z.has x k c e) in let m = z.counter in omega (arith, l, m)

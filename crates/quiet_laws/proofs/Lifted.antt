@@ -9,13 +9,13 @@ use Rattle.cluster_msgs.specs.declared.messages.Up.{Up}
 use Rattle.cluster_msgs.specs.declared.messages.ToClient.{ToClient}
 use Rattle.cluster_msgs.specs.declared.messages.FromClient.{FromClient as ClientMessage}
 use Rattle.cluster_msgs.specs.declared.cores.SchedEvent.{SchedEvent}
-use Rattle.cluster_msgs.specs.declared.cores.SchedEvent.TheVariants.{Join as JoinSched, Leave, FromWorker, FromClient, Balance as BalanceSched, Evict as EvictSched}
+use Rattle.cluster_msgs.specs.declared.cores.SchedEvent.TheVariants.{Join as JoinSched, Leave, FromWorker, FromClient, Balance as BalanceSched, Evict as EvictSched, Replicate as ReplicateSched}
 use Rattle.cluster_msgs.specs.declared.cores.WorkerEvent.{WorkerEvent}
 use Rattle.cluster_msgs.specs.declared.cores.WorkerEvent.TheVariants.{Down as Told, Start as StartTask, Done, Ask as AskPeer, Gathered, GatherFailed, DataLost}
 use Rattle.cluster_msgs.specs.declared.events.Asker.{Asker}
 use Rattle.cluster_msgs.specs.declared.events.Asker.TheVariants.{Worker, Client}
 use Rattle.cluster_msgs.specs.declared.events.Event.{Event}
-use Rattle.cluster_msgs.specs.declared.events.Event.TheVariants.{Want, Release, Join, Lose, SeeLoss, Suspect, DeliverDown, DeliverUp, DeliverToClient, DeliverFromClient, Start, Finish, SendGather, ServeGather, ArriveGather, FailGather, Balance, Evict, Spill, LoseSpilled}
+use Rattle.cluster_msgs.specs.declared.events.Event.TheVariants.{Want, Release, Join, Lose, SeeLoss, Suspect, DeliverDown, DeliverUp, DeliverToClient, DeliverFromClient, Start, Finish, SendGather, ServeGather, ArriveGather, FailGather, Balance, Evict, Replicate, Spill, LoseSpilled}
 use Rattle.cluster_rules.specs.Functions.{put}
 use Rattle.cluster_rules.specs.Sched.{Facts, connected}
 use Rattle.cluster_rules.specs.SchedTable.{sched_takes}
@@ -42,6 +42,7 @@ speaks i (Leave v) = false
 speaks i (FromClient c m) = false
 speaks i BalanceSched = false
 speaks i EvictSched = false
+speaks i (ReplicateSched q v) = false
 
 abbrev pub is_told : WorkerEvent → Bool
 is_told (Told m) = true
@@ -248,6 +249,7 @@ module _ (j : Job) (w : World) (joint : IsJoint j w) (i : ℕ) (P : Fact) (keeps
   kept_step (FailGather a p) t = l_failed a p (open_ask w a p)
   kept_step Balance t = l_plain BalanceSched t refl
   kept_step Evict t = l_plain EvictSched t refl
+  kept_step (Replicate q x) t = l_plain (ReplicateSched q x) t refl
   kept_step (Spill x q) t = h
   kept_step (LoseSpilled x q) t = let b = and_parts (w.alive x) (w.spilled x q) t in
       l_own x (DataLost q) refl (and_from _ _ (key_there j.setting.shape (w.workers x).shape (joint.inside.workers x).shape q (joint.inside.spilled x q b.1)) (joint.home.spilled x q b.1))

@@ -11,7 +11,7 @@ use Rattle.cluster_msgs.specs.declared.messages.Up.TheVariants.{TaskFinished, Ta
 use Rattle.cluster_msgs.specs.declared.messages.ToClient.{ToClient}
 use Rattle.cluster_msgs.specs.declared.messages.FromClient.{FromClient as ClientMessage}
 use Rattle.cluster_msgs.specs.declared.cores.SchedEvent.{SchedEvent}
-use Rattle.cluster_msgs.specs.declared.cores.SchedEvent.TheVariants.{Join as JoinSched, Leave, FromWorker, FromClient, Balance as BalanceSched, Evict as EvictSched}
+use Rattle.cluster_msgs.specs.declared.cores.SchedEvent.TheVariants.{Join as JoinSched, Leave, FromWorker, FromClient, Balance as BalanceSched, Evict as EvictSched, Replicate as ReplicateSched}
 use Rattle.cluster_msgs.specs.declared.cores.WorkerEvent.{WorkerEvent}
 use Rattle.cluster_msgs.specs.declared.cores.WorkerEvent.TheVariants.{Down as Told, Start as StartTask, Done, Ask as AskPeer, Gathered, GatherFailed, DataLost}
 use Rattle.cluster_msgs.specs.declared.cores.ClientEvent.{ClientEvent}
@@ -19,7 +19,7 @@ use Rattle.cluster_msgs.specs.declared.cores.ClientEvent.TheVariants.{Want as Wa
 use Rattle.cluster_msgs.specs.declared.events.Asker.{Asker}
 use Rattle.cluster_msgs.specs.declared.events.Asker.TheVariants.{Worker, Client}
 use Rattle.cluster_msgs.specs.declared.events.Event.{Event}
-use Rattle.cluster_msgs.specs.declared.events.Event.TheVariants.{Want, Release, Join, Lose, SeeLoss, Suspect, DeliverDown, DeliverUp, DeliverToClient, DeliverFromClient, Start, Finish, SendGather, ServeGather, ArriveGather, FailGather, Balance, Evict, Spill, LoseSpilled}
+use Rattle.cluster_msgs.specs.declared.events.Event.TheVariants.{Want, Release, Join, Lose, SeeLoss, Suspect, DeliverDown, DeliverUp, DeliverToClient, DeliverFromClient, Start, Finish, SendGather, ServeGather, ArriveGather, FailGather, Balance, Evict, Replicate, Spill, LoseSpilled}
 use Rattle.cluster_rules.specs.Functions.{put}
 use Rattle.cluster_rules.specs.SchedStep.{sched_step, mail}
 use Rattle.cluster_rules.specs.Worker.{Ask}
@@ -145,6 +145,7 @@ module _ (j : Job) (graph : IsShape j.setting.shape) (n : ℕ) (one : 1 ≤ n) (
   short_step w (FailGather a p) f h = sh_failed w a p (open_ask w a p) f h
   short_step w Balance f h = sh_scheduler w BalanceSched f.shape h
   short_step w Evict f h = sh_scheduler w EvictSched f.shape h
+  short_step w (Replicate k i) f h = sh_scheduler w (ReplicateSched k i) f.shape h
   short_step w (Spill i k) f h = record { down = h.down; up = h.up }
   short_step w (LoseSpilled i k) f h = sh_worker w i (DataLost k) f h
 

@@ -6,7 +6,7 @@ use Rattle.cluster_rules.specs.Sched.{Facts}
 use Rattle.cluster_rules.specs.World.{Job, World, opening}
 use Rattle.cluster_rules.specs.WorldStep.{world_step}
 use Rattle.cluster_rules.specs.Runs.{run_from, reached, sched_event}
-use Rattle.safety_laws.proofs.Turns.{sched_after, sched_is}
+use Rattle.cluster_laws.proofs.SchedPart.{sched_after, sched_is}
 use Rattle.quiet_laws.specs.Old.{AreOld, AreFenced}
 use Rattle.quiet_laws.proofs.Has.{fenced_step}
 use Rattle.quiet_laws.proofs.Copied.{AreCopied, copied_step, copied_opening, old_from}

@@ -8,12 +8,12 @@ use Rattle.small_facts.proofs.Every.{all_join, all_below_at}
 use Rattle.small_facts.proofs.Lists.{filter_fewer}
 use Rattle.cluster_msgs.specs.Shape.{Shape, IsShape, key_count, deps_of}
 use Rattle.cluster_msgs.specs.declared.messages.Down.{Down}
-use Rattle.cluster_msgs.specs.declared.messages.Down.TheVariants.{ComputeTask, StealRequest, RemoveReplicas, RefreshWhoHas}
+use Rattle.cluster_msgs.specs.declared.messages.Down.TheVariants.{ComputeTask, StealRequest, RemoveReplicas, AcquireReplicas, RefreshWhoHas}
 use Rattle.cluster_msgs.specs.declared.messages.Up.TheVariants.{TaskFinished, TaskErred, AddKeys, ReleaseWorkerData, MissingData, RequestRefreshWhoHas, StealResponse}
 use Rattle.cluster_msgs.specs.declared.messages.FromClient.TheVariants.{Want as WantMessage, Release as ReleaseMessage, Missing as MissingMessage}
 use Rattle.cluster_msgs.specs.declared.cores.Steal.{Steal}
 use Rattle.cluster_msgs.specs.declared.cores.SchedEvent.{SchedEvent}
-use Rattle.cluster_msgs.specs.declared.cores.SchedEvent.TheVariants.{Join, Leave, FromWorker, FromClient, Balance, Evict}
+use Rattle.cluster_msgs.specs.declared.cores.SchedEvent.TheVariants.{Join, Leave, FromWorker, FromClient, Balance, Evict, Replicate}
 use Rattle.cluster_rules.specs.Functions.{put_pair}
 use Rattle.cluster_rules.specs.Derived.{below}
 use Rattle.cluster_rules.specs.Sched.{Facts, Setting, keys, deps, holds, held, is_on, workers, who_has}
@@ -57,6 +57,11 @@ module _ (g : Shape) (low : IsShape g) (n : ℕ) (one : 1 ≤ n) (few : key_coun
   unfolding who_has
   refresh_short h k true = (one, tt)
   refresh_short h k false = tt
+
+  acquire_short : (h : Facts) (k : ℕ) (b : Bool) → AllShort (cond b (AcquireReplicas (who_has h (k ∷ [])) ∷ []) [])
+  unfolding who_has
+  acquire_short h k true = (one, tt)
+  acquire_short h k false = tt
 
   add_key_short : (h : Facts) (u w seen : ℕ) (c : Changed) (k : ℕ) → AllShort (c.answer h u) → AllShort ((add_key w seen c k).answer h u)
   add_key_short h u w seen c k r = by (nat_le (c.facts.fence w k) seen) (holds c.facts w k) (held c.facts k) (is_on c.facts w k)
@@ -115,6 +120,7 @@ module _ (g : Shape) (low : IsShape g) (n : ℕ) (one : 1 ≤ n) (few : key_coun
   answer_short f (FromClient c (MissingMessage k x copy)) h u = lost_copy_short h u f x k copy
   answer_short f Balance h u = balance_short h u f (next_steal f)
   answer_short f Evict h u = evict_short h u f (next_drop f)
+  answer_short f (Replicate k w) h u = acquire_short h k (u == w)
 
   abbrev AllMailShort : List (ℕ × Down) → Type 0
   AllMailShort ms = AllByRecursion (λ (m : ℕ × Down). IsShort m.1) ms

@@ -7,12 +7,12 @@ use Rattle.std.proofs.lemmas.Option.{none-some}
 use Rattle.std.proofs.Math.Dec.{eqb}
 use Rattle.small_facts.proofs.Every.{all_join}
 use Rattle.cluster_msgs.specs.declared.messages.Down.{Down}
-use Rattle.cluster_msgs.specs.declared.messages.Down.TheVariants.{ComputeTask, StealRequest, RemoveReplicas, RefreshWhoHas}
+use Rattle.cluster_msgs.specs.declared.messages.Down.TheVariants.{ComputeTask, StealRequest, RemoveReplicas, AcquireReplicas, RefreshWhoHas}
 use Rattle.cluster_msgs.specs.declared.messages.Up.TheVariants.{TaskFinished, TaskErred, AddKeys, ReleaseWorkerData, MissingData, RequestRefreshWhoHas, StealResponse}
 use Rattle.cluster_msgs.specs.declared.messages.FromClient.TheVariants.{Want as WantMessage, Release as ReleaseMessage, Missing as MissingMessage}
 use Rattle.cluster_msgs.specs.declared.cores.Steal.{Steal}
 use Rattle.cluster_msgs.specs.declared.cores.SchedEvent.{SchedEvent}
-use Rattle.cluster_msgs.specs.declared.cores.SchedEvent.TheVariants.{Join, Leave, FromWorker, FromClient, Balance, Evict}
+use Rattle.cluster_msgs.specs.declared.cores.SchedEvent.TheVariants.{Join, Leave, FromWorker, FromClient, Balance, Evict, Replicate}
 use Rattle.cluster_rules.specs.Functions.{put_pair, from_one}
 use Rattle.cluster_rules.specs.Derived.{below}
 use Rattle.cluster_rules.specs.Sched.{Facts, keys, deps, holds, held, is_on, workers, holders, who_has}
@@ -46,6 +46,7 @@ module _ (f : Facts) (i : ℕ) where
   AskedTruly (FromClient c m) = Unit {0}
   AskedTruly Balance = Unit {0}
   AskedTruly Evict = Unit {0}
+  AskedTruly (Replicate k w) = Unit {0}
 
   abbrev AllOthers : List Down → Type 0
   AllOthers ms = AllByRecursion (NamesOthers i) ms
@@ -68,6 +69,10 @@ module _ (f : Facts) (i : ℕ) where
       by : (b : Bool) → eqb u v ≡ b → AllOthers (cond b (RefreshWhoHas ((q, filter_map (λ w. option_map (λ c. (w, c)) (h.has w q)) (from_one h.last_worker)) ∷ []) ∷ []) [])
       by true s = ((not_listed h i q (n (sym (eqb-true u v s) ∙ e)) (from_one h.last_worker), tt), tt)
       by false s = tt
+
+  acquired_others : (h : Facts) (k : ℕ) (b : Bool) → AllOthers (cond b (AcquireReplicas (who_has h (k ∷ [])) ∷ []) [])
+  acquired_others h k true = (tt, tt)
+  acquired_others h k false = tt
 
   add_key_others : (h : Facts) (u w seen : ℕ) (c : Changed) (k : ℕ) → AllOthers (c.answer h u) → AllOthers ((add_key w seen c k).answer h u)
   add_key_others h u w seen c k r = by (nat_le (c.facts.fence w k) seen) (holds c.facts w k) (held c.facts k) (is_on c.facts w k)
@@ -138,6 +143,7 @@ module _ (f : Facts) (i : ℕ) where
   answer_others (FromClient c (MissingMessage k x copy)) h m a u s = lost_others h u x k copy
   answer_others Balance h m a u s = balance_others h u (next_steal f)
   answer_others Evict h m a u s = evict_others h u (next_drop f)
+  answer_others (Replicate k w) h m a u s = acquired_others h k (u == w)
 
   abbrev MailOthers : ℕ × Down → Type 0
   MailOthers m = m.0 ≡ i → NamesOthers i m.1

@@ -8,7 +8,7 @@ use Rattle.cluster_msgs.specs.declared.messages.Down.{Down}
 use Rattle.cluster_msgs.specs.declared.messages.Up.{Up}
 use Rattle.cluster_msgs.specs.declared.messages.Up.TheVariants.{TaskFinished, TaskErred, AddKeys, ReleaseWorkerData, MissingData, RequestRefreshWhoHas, StealResponse}
 use Rattle.cluster_msgs.specs.declared.cores.SchedEvent.{SchedEvent}
-use Rattle.cluster_msgs.specs.declared.cores.SchedEvent.TheVariants.{Join as JoinSched, Leave, FromWorker, FromClient, Balance as BalanceSched, Evict as EvictSched}
+use Rattle.cluster_msgs.specs.declared.cores.SchedEvent.TheVariants.{Join as JoinSched, Leave, FromWorker, FromClient, Balance as BalanceSched, Evict as EvictSched, Replicate as ReplicateSched}
 use Rattle.cluster_msgs.specs.declared.cores.WorkerEvent.{WorkerEvent}
 use Rattle.cluster_msgs.specs.declared.cores.WorkerEvent.TheVariants.{Down as Told, Start as StartTask, Done, Ask as AskPeer, Gathered, GatherFailed, DataLost}
 use Rattle.cluster_msgs.specs.declared.events.Event.{Event}
@@ -50,6 +50,7 @@ report_quiet i k (Leave v) e = refl
 report_quiet i k (FromClient c m) e = refl
 report_quiet i k BalanceSched e = refl
 report_quiet i k EvictSched e = refl
+report_quiet i k (ReplicateSched q v) e = refl
 
 asked_quiet : (f : Facts) (i : ℕ) (s : SchedEvent) → speaks i s ≡ false → AskedTruly f i s
 asked_quiet f i (FromWorker x m) e = λ s q z. absurd (true≢false (sym (eq-eqb x i s) ∙ e))
@@ -58,6 +59,7 @@ asked_quiet f i (Leave v) e = tt
 asked_quiet f i (FromClient c m) e = tt
 asked_quiet f i BalanceSched e = tt
 asked_quiet f i EvictSched e = tt
+asked_quiet f i (ReplicateSched q v) e = tt
 
 -- the key of a question is one of the graph's
 question_key : (g : Shape) (q : ℕ) (m : Up) → questions q m ≡ true → AreKeys g (up_keys m) → q < key_count g

@@ -3,12 +3,12 @@ use Rattle.std.proofs.Common.{◌≡◌, ℕ, ◌+◌, ◌<◌, ◌≤◌, Bool,
 use Rattle.std.proofs.lemmas.Bool.{false≢true, eqb-true}
 use Rattle.std.proofs.Math.Dec.{eqb}
 use Rattle.cluster_msgs.specs.declared.messages.Down.{Down}
-use Rattle.cluster_msgs.specs.declared.messages.Down.TheVariants.{ComputeTask, FreeKeys, StealRequest, RemoveReplicas, RefreshWhoHas}
+use Rattle.cluster_msgs.specs.declared.messages.Down.TheVariants.{ComputeTask, FreeKeys, StealRequest, RemoveReplicas, AcquireReplicas, RefreshWhoHas}
 use Rattle.cluster_msgs.specs.declared.messages.Up.TheVariants.{TaskFinished, MissingData, StealResponse}
 use Rattle.cluster_rules.specs.Derived.{is_in}
 use Rattle.cluster_msgs.specs.declared.messages.Up.{Up}
 use Rattle.cluster_msgs.specs.declared.cores.SchedEvent.{SchedEvent}
-use Rattle.cluster_msgs.specs.declared.cores.SchedEvent.TheVariants.{Join as JoinSched, Leave, FromWorker, FromClient, Balance as BalanceSched, Evict as EvictSched}
+use Rattle.cluster_msgs.specs.declared.cores.SchedEvent.TheVariants.{Join as JoinSched, Leave, FromWorker, FromClient, Balance as BalanceSched, Evict as EvictSched, Replicate as ReplicateSched}
 use Rattle.cluster_msgs.specs.declared.events.Event.{Event}
 use Rattle.cluster_rules.specs.World.{Job, World, is_connected}
 use Rattle.cluster_rules.specs.WorldStep.{world_step}
@@ -93,6 +93,10 @@ refresh_says : (k : ℕ) (x : Facts) (q : ℕ) (b : Bool) → Says k x (cond b (
 refresh_says k x q true = inr (q, refl)
 refresh_says k x q false = inl tt
 
+acquire_says : (k : ℕ) (x : Facts) (q : ℕ) (b : Bool) → Says k x (cond b (AcquireReplicas (who_has x (q ∷ [])) ∷ []) [])
+acquire_says k x q true = inl (refl, tt)
+acquire_says k x q false = inl tt
+
 ask_says : (k q : ℕ) (o : Option (ℕ × ℕ)) (w : ℕ) → AllSound k (ask_message q o w)
 ask_says k q None w = tt
 ask_says k q (Some p) w = pick (eqb p.0 w)
@@ -136,6 +140,7 @@ answers_say k f (FromClient c (ReleaseMessage ks)) x w = inl tt
 answers_say k f (FromClient c (MissingMessage q y n)) x w = lost_says k f y q n x w
 answers_say k f BalanceSched x w = balanced_says k f (next_steal f) x w
 answers_say k f EvictSched x w = evicted_says k f (next_drop f) x w
+answers_say k f (ReplicateSched q v) x w = acquire_says k x q (eqb w v)
 
 -- ## A key that isn't held
 
@@ -255,6 +260,7 @@ module _ (j : Job) (w : World) (joint : IsJoint j w) (i : ℕ) where
   quiet_report (FromClient c m) e q = refl
   quiet_report BalanceSched e q = refl
   quiet_report EvictSched e q = refl
+  quiet_report (ReplicateSched r v) e q = refl
 
   sound_kept : (threads k q : ℕ) (v : Bool × Option ℕ) → i ≡ w.sched.last_worker + 1 → GivesUpBefore k q v (w.down i ++ mail i (sched_step w.sched (JoinSched threads)).down)
   unfolding sched_step finish_step task_messages settle

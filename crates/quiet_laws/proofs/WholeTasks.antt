@@ -2,10 +2,10 @@
 use Rattle.std.proofs.Common.{◌≡◌, ℕ, Bool, true, false, cond, ◌&&◌, List, [], ◌∷◌, ◌++◌, Option, Some, None, refl, sym, ap, subst, arith}
 use Rattle.std.proofs.Math.Dec.{eqb}
 use Rattle.cluster_msgs.specs.declared.messages.Down.{Down}
-use Rattle.cluster_msgs.specs.declared.messages.Down.TheVariants.{ComputeTask, StealRequest, RemoveReplicas, RefreshWhoHas}
+use Rattle.cluster_msgs.specs.declared.messages.Down.TheVariants.{ComputeTask, StealRequest, RemoveReplicas, AcquireReplicas, RefreshWhoHas}
 use Rattle.cluster_msgs.specs.declared.messages.Up.TheVariants.{TaskFinished, MissingData, StealResponse}
 use Rattle.cluster_msgs.specs.declared.cores.SchedEvent.{SchedEvent}
-use Rattle.cluster_msgs.specs.declared.cores.SchedEvent.TheVariants.{Join as JoinSched, Leave, FromWorker, FromClient, Balance as BalanceSched, Evict as EvictSched}
+use Rattle.cluster_msgs.specs.declared.cores.SchedEvent.TheVariants.{Join as JoinSched, Leave, FromWorker, FromClient, Balance as BalanceSched, Evict as EvictSched, Replicate as ReplicateSched}
 use Rattle.cluster_msgs.specs.declared.events.Event.{Event}
 use Rattle.cluster_rules.specs.World.{Job, World}
 use Rattle.cluster_rules.specs.WorldStep.{world_step}
@@ -67,6 +67,10 @@ module _ (ds : ℕ → List ℕ) where
   refresh_whole x k true = (tt, tt)
   refresh_whole x k false = tt
 
+  acquire_whole : (x : Facts) (k : ℕ) (b : Bool) → AllByRecursion (NamesDeps ds) (cond b (AcquireReplicas (who_has x (k ∷ [])) ∷ []) [])
+  acquire_whole x k true = (tt, tt)
+  acquire_whole x k false = tt
+
   ask_whole : (q : ℕ) (o : Option (ℕ × ℕ)) (w : ℕ) → AllByRecursion (NamesDeps ds) (ask_message q o w)
   ask_whole q None w = tt
   ask_whole q (Some p) w = pick (eqb p.0 w)
@@ -110,6 +114,7 @@ module _ (ds : ℕ → List ℕ) where
   answers_whole f (FromClient c (MissingMessage k y n)) x w = lost_whole f y k n x w
   answers_whole f BalanceSched x w = balanced_whole f (next_steal f) x w
   answers_whole f EvictSched x w = evicted_whole f (next_drop f) x w
+  answers_whole f (ReplicateSched k v) x w = acquire_whole x k (eqb w v)
 
   down_whole : (f : Facts) (s : SchedEvent) → deps (sched_step f s).facts ≡ ds → DownWhole (sched_step f s).down
   unfolding sched_step finish_step posted down_messages to_worker task_messages settle

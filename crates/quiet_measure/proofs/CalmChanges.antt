@@ -12,16 +12,13 @@ use Rattle.cluster_rules.specs.SchedTable.{Changed}
 use Rattle.cluster_rules.specs.SchedStep.{drop_bad, drop_has}
 use Rattle.cluster_rules.proofs.SchedLemmas.{need-past, erred-is}
 use Rattle.cluster_rules.proofs.SchedFrame.{in_range}
+use Rattle.cluster_rules.proofs.SoundStep.{false_less, zero_less}
 use Rattle.cluster_laws.specs.Settled.{IsSettled}
 use Rattle.cluster_laws.proofs.Lists.{any_weaken_at}
 use Rattle.cluster_laws.proofs.Fewer.{reach_by, reach_next}
 use Rattle.cluster_laws.proofs.Errors.{ready_is_not_held, ready_is_not_bad}
 use Rattle.quiet_measure.specs.Changes.{AreDrawn, IsCalmChange}
 use Rattle.quiet_measure.proofs.Settle.{dropped-need, dropped-err}
-
-false_less : (b x : Bool) → x ≡ false → cond b x false ≡ false
-false_less true x e = e
-false_less false x e = refl
 
 pub sound_drop_bad : (f : Facts) → IsSound f → IsSound (drop_bad f)
 unfolding drop_bad
@@ -32,6 +29,7 @@ sound_drop_bad f s = record {
   want = s.want;
   has = s.has;
   bad = λ k l. false_less (known f k) (f.bad k) (s.bad k l);
+  losses = λ k l. zero_less (known f k) (f.losses k) (s.losses k l);
   on = s.on;
   steal = s.steal;
   numbers = s.numbers;

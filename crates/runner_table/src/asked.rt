@@ -35,12 +35,13 @@ pub struct Manner {
     pub spoil: Option<Spoil>,
 }
 
-/// What is changed about a run: what the script makes happen, which keys are wanted besides, and what goes wrong. Also whether a word says nothing of
-/// that, or there is no memory for what it says.
+/// What is changed about a run: what the script makes happen, how often a key's worker may leave, which keys are wanted besides, and what goes wrong.
+/// Also whether a word says nothing of that, or there is no memory for what it says.
 #[derive(Drop)]
 struct Changes {
     script: Script,
     saturation: u32,
+    allowed: Option<u32>,
     wanted: KeyList,
     manner: Manner,
     is_ill: bool,
@@ -95,6 +96,7 @@ fn asked_by(size: Size, changes: Changes) -> Option<Asked>
     let Changes {
         script,
         saturation,
+        allowed,
         wanted,
         manner,
         is_ill,
@@ -110,6 +112,7 @@ fn asked_by(size: Size, changes: Changes) -> Option<Asked>
             workers: size.workers,
             threads: size.threads,
             saturation,
+            allowed,
             script,
             capacity: size.capacity as usize,
         },
@@ -122,6 +125,7 @@ impl Changes {
         Changes {
             script: Script::new(alloc),
             saturation: 11,
+            allowed: None,
             wanted: KeyList::new(alloc),
             manner: Manner {
                 zero: None,
@@ -154,6 +158,7 @@ impl Changes {
             "hungry" => self.manner.hungry = said,
             "want" => self.is_ill |= self.wanted.push(said).is_err(),
             "saturation" => self.saturation = said,
+            "allowed" => self.allowed = Some(said),
             "work" => self.manner.work = said.max(1).min(1_000_000),
             "slow" => self.manner.slow = said,
             "meet" => self.manner.meet = said,

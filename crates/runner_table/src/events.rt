@@ -24,6 +24,7 @@ fn name_of(event: &Event) -> &'static str {
         Event::FailGather { .. } => "fail-gather",
         Event::Balance => "balance",
         Event::Evict => "evict",
+        Event::Replicate { .. } => "replicate",
         Event::Spill { .. } => "spill",
         Event::LoseSpilled { .. } => "lose-spilled",
     }
@@ -78,6 +79,7 @@ fn print_event(page: &mut Page, event: &Event) {
             print_ask(page, *asker, &[*peer as u64, *ask])
         }
         Event::ServeGather { peer, asker, ask } => print_served(page, *peer, *asker, *ask),
+        Event::Replicate { key, worker } => page.numbers("", &[*key as u64, *worker as u64]),
         Event::Balance | Event::Evict => {}
     }
 }

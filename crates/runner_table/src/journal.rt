@@ -11,12 +11,13 @@ use node_runner::Histories;
 use std::alloc::{AllocError, Global};
 
 /// Prints the entries of all nodes, one of them spoiled where that is asked for, their report, and what the audit of them says over the job, with one
-/// client and this saturation.
+/// client, this saturation and these losses allowed.
 pub fn print(
     page: &mut Page,
     alloc: Global,
     job: &Sums,
     saturation: u32,
+    allowed: Option<u32>,
     asked: Option<Spoil>,
     histories: Option<Histories>,
 )
@@ -26,7 +27,14 @@ pub fn print(
         Some(histories) => {
             let rows = rows(page, alloc, histories);
             print_cuts(page, &rows);
-            print_merged(page, alloc, job, saturation, merged(alloc, rows, asked));
+            print_merged(
+                page,
+                alloc,
+                job,
+                saturation,
+                allowed,
+                merged(alloc, rows, asked),
+            );
         }
         None => page.line("no histories"),
     }
@@ -75,6 +83,7 @@ fn print_merged(
     alloc: Global,
     job: &Sums,
     saturation: u32,
+    allowed: Option<u32>,
     journal: Result<Journal, AllocError>,
 )
     requires { (1 ≤ saturation) × (saturation ≤ 1000) }
@@ -83,7 +92,7 @@ fn print_merged(
         Ok(journal) => {
             print_entries(page, journal.as_slice());
             print_report(page, alloc, &job.shape, &journal);
-            print_audit(page, alloc, job, saturation, &journal);
+            print_audit(page, alloc, job, saturation, allowed, &journal);
             drop(journal);
         }
         Err(_) => page.fail(),
@@ -105,7 +114,14 @@ fn print_report(page: &mut Page, alloc: Global, shape: &GraphShape, journal: &Jo
 }
 
 /// What the audit of a journal says, over the job again with a feed that doesn't fail.
-fn print_audit(page: &mut Page, alloc: Global, job: &Sums, saturation: u32, journal: &Journal)
+fn print_audit(
+    page: &mut Page,
+    alloc: Global,
+    job: &Sums,
+    saturation: u32,
+    allowed: Option<u32>,
+    journal: &Journal,
+)
     requires { (1 ≤ saturation) × (saturation ≤ 1000) }
 {
     let Ok(shape) = job.shape.copy() else {
@@ -119,7 +135,7 @@ fn print_audit(page: &mut Page, alloc: Global, job: &Sums, saturation: u32, jour
         fails: None,
         faults: 0,
     };
-    match audit(alloc, again, feed, 1, saturation, journal) {
+    match audit(alloc, again, feed, 1, saturation, allowed, journal) {
         Ok(Audit::Agrees(_)) => page.line("audit: agrees"),
         Ok(Audit::Differs { stamp }) => {
             page.item("audit: differs at ", stamp);

@@ -2,7 +2,7 @@
 //! threads do.
 //!
 //! It stands on `node_runner` and `journal_audit`, and nothing stands above it. A line is `sum` or `shared`, `LEAVES WORKERS THREADS CAPACITY`, and words:
-//! `lose:W@N`, `suspect:W@N`, `join@N`, `want:KEY`, `saturation:N`, `zero:KEY`, `short:W`, `fail:W`, `hungry:W`, `work:N`, `slow:N`;
+//! `lose:W@N`, `suspect:W@N`, `join@N`, `want:KEY`, `saturation:N`, `allowed:N`, `zero:KEY`, `short:W`, `fail:W`, `hungry:W`, `work:N`, `slow:N`;
 //! `meet:N`, which holds each task until N have started; and `journal`, which prints the entries of all nodes besides, with their report and their
 //! audit. These are others in each run. `leave:N`, `mute:N` and `late:N` spoil one of these entries before.
 #![tactic(auto)]

@@ -112,7 +112,8 @@ where
     R: Threads + Wait + RandomSource + AllocGlobal + Sync,
     G: Gate,
     P: Picks<Sums> + Send + Sync + Drop,
-    requires { P.picked ≡ Some job.now }
+    requires picked { P.picked ≡ Some job.now }
+    requires allowed { P.allowed ≡ asked.now.plan.allowed }
     ensures { IfOk result (λ t. IfOk t.worths (λ ws. All (λ w. sum_of job.now.shape job.now.zero w.key ≡ Some w.value) ws.items)) }
 {
     let keys = job.shape.keys();
@@ -319,6 +320,10 @@ fn print(page: &mut Page, alloc: Global, asked: &Asked, job: &Sums, told: Told) 
             page.item("zero divisor at ", key);
             page.put("\n");
         }
+        Err(RunStatus::Killed { key, losses }) => {
+            page.numbers("killed:", &[key as u64, losses as u64]);
+            page.put("\n");
+        }
         Err(RunStatus::Read) => page.line("read fault"),
         Err(RunStatus::Events) => page.line("events"),
         Err(RunStatus::Memory) => page.line("no memory"),
@@ -330,6 +335,7 @@ fn print(page: &mut Page, alloc: Global, asked: &Asked, job: &Sums, told: Told) 
             alloc,
             job,
             asked.plan.saturation,
+            asked.plan.allowed,
             asked.manner.spoil,
             histories,
         );

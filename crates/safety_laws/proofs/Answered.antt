@@ -16,13 +16,13 @@ use Rattle.cluster_msgs.specs.declared.messages.Up.{Up}
 use Rattle.cluster_msgs.specs.declared.messages.ToClient.{ToClient}
 use Rattle.cluster_msgs.specs.declared.messages.FromClient.{FromClient as ClientMessage}
 use Rattle.cluster_msgs.specs.declared.cores.SchedEvent.{SchedEvent}
-use Rattle.cluster_msgs.specs.declared.cores.SchedEvent.TheVariants.{Join as JoinSched, Leave, FromWorker, FromClient, Balance as BalanceSched, Evict as EvictSched}
+use Rattle.cluster_msgs.specs.declared.cores.SchedEvent.TheVariants.{Join as JoinSched, Leave, FromWorker, FromClient, Balance as BalanceSched, Evict as EvictSched, Replicate as ReplicateSched}
 use Rattle.cluster_msgs.specs.declared.cores.ClientEvent.{ClientEvent}
 use Rattle.cluster_msgs.specs.declared.cores.ClientEvent.TheVariants.{Want as WantKeys, Release as ReleaseKeys, FromScheduler, Ask as ClientAsk, Gathered as ClientGathered, GatherFailed as ClientGatherFailed}
 use Rattle.cluster_msgs.specs.declared.events.Asker.{Asker}
 use Rattle.cluster_msgs.specs.declared.events.Asker.TheVariants.{Worker, Client}
 use Rattle.cluster_msgs.specs.declared.events.Event.{Event}
-use Rattle.cluster_msgs.specs.declared.events.Event.TheVariants.{Want, Release, Join, Lose, SeeLoss, Suspect, DeliverDown, DeliverUp, DeliverToClient, DeliverFromClient, Start, Finish, SendGather, ServeGather, ArriveGather, FailGather, Balance, Evict, Spill, LoseSpilled}
+use Rattle.cluster_msgs.specs.declared.events.Event.TheVariants.{Want, Release, Join, Lose, SeeLoss, Suspect, DeliverDown, DeliverUp, DeliverToClient, DeliverFromClient, Start, Finish, SendGather, ServeGather, ArriveGather, FailGather, Balance, Evict, Replicate, Spill, LoseSpilled}
 use Rattle.cluster_rules.specs.World.{Job, World, Parcel, shape_of, is_connected, is_client, is_asker, open_ask, is_parcel, parcel_of, without_parcel}
 use Rattle.cluster_rules.specs.WorldStep.{scheduled, worked, client_worked, at_scheduler, at_worker, at_client, new_at, died, cut_off, take_down_first, take_up, take_up_first, take_to_client, take_from_client, ask_by, gathered_at, serve, take_answer, fail_ask, world_step}
 use Rattle.cluster_rules.specs.Enabled.{enabled}
@@ -38,7 +38,7 @@ use Rattle.cluster_msgs.specs.declared.cores.ClientInstruction.{ClientInstructio
 use Rattle.cluster_msgs.specs.declared.cores.ClientInstruction.TheVariants.{Send as ClientSend, Gather as ClientGather}
 use Rattle.cluster_rules.specs.World.{with_parcel, parcel_before, same_asker}
 use Rattle.cluster_rules.specs.WorldStep.{requested, client_requested, spill}
-use Rattle.cluster_rules.specs.Sched.{Facts, Setting}
+use Rattle.cluster_rules.specs.Sched.{Setting}
 use Rattle.safety_laws.proofs.Turns.{same_setting}
 use Rattle.safety_laws.proofs.Lively.{same_asker_is}
 use Rattle.std.proofs.lemmas.Bool.{and_parts, and_from}
@@ -455,6 +455,7 @@ alive_is j w (ArriveGather a p n) = alive_answer w (parcel_of a p n w.answers)
 alive_is j w (FailGather a p) = alive_fails w a p (open_ask w a p)
 alive_is j w Balance = refl
 alive_is j w Evict = refl
+alive_is j w (Replicate k i) = refl
 alive_is j w (Spill i k) = refl
 alive_is j w (LoseSpilled i k) = refl
 
@@ -615,5 +616,6 @@ module _ (w : World) (h : (a : Asker) → is_asker w a ≡ true → Answers w a)
   answered_step j (FailGather a p) t b u = an_fails a p (open_ask w a p) (and_parts (is_asker w a) _ t).0 b (asked_before j (FailGather a p) refl b u)
   answered_step j Balance t b u = an_scheduler w BalanceSched refl refl refl refl b (asked_before j Balance refl b u)
   answered_step j Evict t b u = an_scheduler w EvictSched refl refl refl refl b (asked_before j Evict refl b u)
+  answered_step j (Replicate k i) t b u = an_scheduler w (ReplicateSched k i) refl refl refl refl b (asked_before j (Replicate k i) refl b u)
   answered_step j (Spill i k) t b u = an_spill i k b (asked_before j (Spill i k) refl b u)
   answered_step j (LoseSpilled i k) t b u = an_own w i (DataLost k) tt refl refl refl refl (and_parts (w.alive i) _ t).0 b (asked_before j (LoseSpilled i k) refl b u)

@@ -14,7 +14,8 @@ use Rattle.cluster_rules.specs.Enabled.{enabled}
 use Rattle.cluster_rules.specs.Runs.{LegalFrom, legal, run_from, reached, sched_event, ends_in, Gives, Ended}
 use Rattle.cluster_laws.proofs.Attempts.{attempts_end}
 use Rattle.safety_laws.specs.Attempts.{AttemptsEnd}
-use Rattle.safety_laws.proofs.Turns.{sched_after, sched_is, event_taken}
+use Rattle.cluster_laws.proofs.SchedPart.{sched_after, sched_is}
+use Rattle.safety_laws.proofs.Turns.{event_taken}
 use Rattle.safety_laws.proofs.Homes.{letter_from}
 use Rattle.safety_laws.proofs.Joint.{IsJoint, joint_step, joint_from, joint_after}
 

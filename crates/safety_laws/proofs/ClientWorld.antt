@@ -9,7 +9,7 @@ use Rattle.cluster_rules.specs.Worker.{Ask as OpenAsk, ask_to, without_ask}
 use Rattle.cluster_msgs.specs.declared.messages.Up.{Up}
 use Rattle.cluster_msgs.specs.declared.messages.FromClient.{FromClient as ClientMessage}
 use Rattle.cluster_msgs.specs.declared.cores.SchedEvent.{SchedEvent}
-use Rattle.cluster_msgs.specs.declared.cores.SchedEvent.TheVariants.{Join as JoinSched, Leave, FromWorker, FromClient, Balance as BalanceSched, Evict as EvictSched}
+use Rattle.cluster_msgs.specs.declared.cores.SchedEvent.TheVariants.{Join as JoinSched, Leave, FromWorker, FromClient, Balance as BalanceSched, Evict as EvictSched, Replicate as ReplicateSched}
 use Rattle.cluster_rules.specs.World.{World}
 use Rattle.std.specs.Prelude.{nat_le}
 use Rattle.std.proofs.lemmas.Bool.{and_parts}
@@ -136,7 +136,7 @@ abbrev pub NoLetter : SchedEvent → Type 0
 NoLetter (FromClient c m) = ⊥
 NoLetter s = Unit {0}
 
-want_change : (f : Facts) (s : SchedEvent) → NoLetter s → (change f s).facts.want ≡ f.want
+pub want_change : (f : Facts) (s : SchedEvent) → NoLetter s → (change f s).facts.want ≡ f.want
 unfolding joined left
 want_change f (JoinSched threads) o = refl
 want_change f (Leave v) o = refl
@@ -144,6 +144,7 @@ want_change f (FromWorker v m) o = want_up f v m
 want_change f (FromClient c m) o = absurd o
 want_change f BalanceSched o = want_balanced f (next_steal f)
 want_change f EvictSched o = want_evicted f (next_drop f)
+want_change f (ReplicateSched k i) o = refl
 
 pub turn_quiet : (w v : World) (s : SchedEvent) (c k : ℕ) → NoLetter s → v.from_client c ≡ w.from_client c → IsTurn w v s c k
 turn_quiet w v s c k o from = record {
@@ -157,13 +158,13 @@ turn_quiet w v s c k o from = record {
     same = ap (λ (x : ℕ → ℕ → Bool). x c k) ((step_settles w.sched s).want ∙ want_change w.sched s o)
 
 -- a client's message
-letter_want : (f : Facts) (x : ℕ) (m : ClientMessage) (k : ℕ) → (change_client f x m).facts.want x k ≡ wants_then k m (f.want x k)
+pub letter_want : (f : Facts) (x : ℕ) (m : ClientMessage) (k : ℕ) → (change_client f x m).facts.want x k ≡ wants_then k m (f.want x k)
 unfolding wants_more wants_less
 letter_want f x (WantMessage ks) k = ap (λ b. f.want x k || (b && is_in k ks)) (eq-eqb x x refl)
 letter_want f x (ReleaseMessage ks) k = ap (λ b. f.want x k && not (b && is_in k ks)) (eq-eqb x x refl)
 letter_want f x (MissingMessage q p n) k = ap (λ (y : ℕ → ℕ → Bool). y x k) (want_lost f p q n)
 
-other_want : (f : Facts) (x : ℕ) (m : ClientMessage) (c k : ℕ) → eqb c x ≡ false → (change_client f x m).facts.want c k ≡ f.want c k
+pub other_want : (f : Facts) (x : ℕ) (m : ClientMessage) (c k : ℕ) → eqb c x ≡ false → (change_client f x m).facts.want c k ≡ f.want c k
 unfolding wants_more wants_less
 other_want f x (WantMessage ks) c k e = ap (λ b. f.want c k || (b && is_in k ks)) e ∙ or-false (f.want c k)
 other_want f x (ReleaseMessage ks) c k e = ap (λ b. f.want c k && not (b && is_in k ks)) e ∙ and-true (f.want c k)

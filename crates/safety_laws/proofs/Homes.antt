@@ -13,7 +13,7 @@ use Rattle.cluster_msgs.specs.declared.messages.Up.{Up}
 use Rattle.cluster_msgs.specs.declared.messages.ToClient.{ToClient}
 use Rattle.cluster_msgs.specs.declared.messages.FromClient.{FromClient as ClientMessage}
 use Rattle.cluster_msgs.specs.declared.cores.SchedEvent.{SchedEvent}
-use Rattle.cluster_msgs.specs.declared.cores.SchedEvent.TheVariants.{Join as JoinSched, Leave, FromWorker, FromClient, Balance as BalanceSched, Evict as EvictSched}
+use Rattle.cluster_msgs.specs.declared.cores.SchedEvent.TheVariants.{Join as JoinSched, Leave, FromWorker, FromClient, Balance as BalanceSched, Evict as EvictSched, Replicate as ReplicateSched}
 use Rattle.cluster_msgs.specs.declared.cores.WorkerEvent.{WorkerEvent}
 use Rattle.cluster_msgs.specs.declared.cores.WorkerEvent.TheVariants.{Down as Told, Start as StartTask, Done, Ask as AskPeer, Gathered, GatherFailed, DataLost}
 use Rattle.cluster_msgs.specs.declared.cores.ClientEvent.{ClientEvent}
@@ -21,7 +21,7 @@ use Rattle.cluster_msgs.specs.declared.cores.ClientEvent.TheVariants.{Want as Wa
 use Rattle.cluster_msgs.specs.declared.events.Asker.{Asker}
 use Rattle.cluster_msgs.specs.declared.events.Asker.TheVariants.{Worker, Client}
 use Rattle.cluster_msgs.specs.declared.events.Event.{Event}
-use Rattle.cluster_msgs.specs.declared.events.Event.TheVariants.{Want, Release, Join, Lose, SeeLoss, Suspect, DeliverDown, DeliverUp, DeliverToClient, DeliverFromClient, Start, Finish, SendGather, ServeGather, ArriveGather, FailGather, Balance, Evict, Spill, LoseSpilled}
+use Rattle.cluster_msgs.specs.declared.events.Event.TheVariants.{Want, Release, Join, Lose, SeeLoss, Suspect, DeliverDown, DeliverUp, DeliverToClient, DeliverFromClient, Start, Finish, SendGather, ServeGather, ArriveGather, FailGather, Balance, Evict, Replicate, Spill, LoseSpilled}
 use Rattle.cluster_rules.specs.Functions.{put}
 use Rattle.cluster_rules.specs.Sched.{Facts, Setting, IsSound, connected}
 use Rattle.cluster_rules.specs.SchedTable.{change, joined, sched_takes}
@@ -341,6 +341,7 @@ module _ (j : Job) where
     home_step (FailGather a p) t = step_fails a p (open_ask w a p) (and_parts (is_asker w a) _ t).0
     home_step Balance t = step_scheduler BalanceSched t
     home_step Evict t = step_scheduler EvictSched t
+    home_step (Replicate k i) t = step_scheduler (ReplicateSched k i) t
     home_step (Spill i k) t = let a = and_parts (w.alive i) ((w.workers i).mem k && not (w.spilled i k)) t in h_spill j.setting.shape j.setting.clients w.sched.last_worker w i k a.0 (and_parts ((w.workers i).mem k) (not (w.spilled i k)) a.1).0 h
     home_step (LoseSpilled i k) t = let a = and_parts (w.alive i) (w.spilled i k) t in
         step_worker i (DataLost k) a.0 (and_from _ _ (key_there j.setting.shape (w.workers i).shape (inside.workers i).shape k (inside.spilled i k a.1)) (h.spilled i k a.1))

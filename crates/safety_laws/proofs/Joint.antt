@@ -8,7 +8,7 @@ use Rattle.small_facts.proofs.Truth.{and_first}
 use Rattle.cluster_msgs.specs.Shape.{Shape, key_count}
 use Rattle.cluster_msgs.specs.declared.cores.SchedEvent.{SchedEvent}
 use Rattle.cluster_msgs.specs.declared.events.Event.{Event}
-use Rattle.cluster_rules.specs.Sched.{Facts, IsSound, holds, need, ready, open_key, fed}
+use Rattle.cluster_rules.specs.Sched.{Facts, IsSound, holds, known, need, ready, open_key, fed}
 use Rattle.cluster_rules.specs.SchedTable.{sched_takes}
 use Rattle.cluster_rules.specs.World.{Job, IsJob, World, opening, shape_of, Drained}
 use Rattle.cluster_rules.specs.WorldStep.{world_step}
@@ -24,7 +24,8 @@ use Rattle.pair_machine.proofs.PairKept.{at_rest}
 use Rattle.pair_moves.specs.Projection.{notes, reports, at_worker, IsNumbered}
 use Rattle.pair_moves.proofs.Events.{numbered_step, numbered_opening}
 use Rattle.safety_laws.specs.Joint.{pair_at, IsPaired}
-use Rattle.safety_laws.proofs.Turns.{sched_after, sched_is, same_setting, event_taken}
+use Rattle.cluster_laws.proofs.SchedPart.{sched_after, sched_is}
+use Rattle.safety_laws.proofs.Turns.{same_setting, event_taken}
 use Rattle.safety_laws.proofs.Homes.{IsHome, home_step, home_opening, letter_from}
 use Rattle.safety_laws.proofs.Paired.{IsUnsent, unsent_after, paired_step}
 
@@ -100,11 +101,16 @@ only_known f t = record {
   on = λ k e. t.needed_are_known k (needed k (t.placed_are_ready k e));
   steal = λ k e. t.needed_are_known k (needed k (t.placed_are_ready k (t.stolen_are_placed k e)));
   bad = t.errors_are_known;
+  losses = λ k l. counted k l (known f k) refl;
   held = λ k e. there k (holder_of f k e);
 }
   where
     needed : (k : ℕ) → ready f k ≡ true → need f k ≡ true
     needed k e = and_first (need f k) (open_key f k) (and_first (need f k && open_key f k) (fed f k) e)
+
+    counted : (k : ℕ) → 1 ≤ f.losses k → (b : Bool) → known f k ≡ b → b ≡ true
+    counted k l true e = refl
+    counted k l false e = absurd (omega (arith, l, t.losses_are_known k e))
 
     there : (k : ℕ) → (w : ℕ) × (holds f w k ≡ true) → need f k ≡ true
     there k (w, e) = t.held_are_needed w k e

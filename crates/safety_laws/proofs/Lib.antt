@@ -23,3 +23,5 @@ pub mod WorldServed
 pub mod Responsive
 pub mod Safety
 pub mod Staying
+pub mod Unreleased
+pub mod Leaves

@@ -16,13 +16,13 @@ use Rattle.cluster_msgs.specs.declared.messages.Up.{Up}
 use Rattle.cluster_msgs.specs.declared.messages.ToClient.{ToClient}
 use Rattle.cluster_msgs.specs.declared.messages.FromClient.{FromClient as ClientMessage}
 use Rattle.cluster_msgs.specs.declared.cores.SchedEvent.{SchedEvent}
-use Rattle.cluster_msgs.specs.declared.cores.SchedEvent.TheVariants.{Join as JoinSched, Leave, FromWorker, FromClient, Balance as BalanceSched, Evict as EvictSched}
+use Rattle.cluster_msgs.specs.declared.cores.SchedEvent.TheVariants.{Join as JoinSched, Leave, FromWorker, FromClient, Balance as BalanceSched, Evict as EvictSched, Replicate as ReplicateSched}
 use Rattle.cluster_msgs.specs.declared.cores.ClientEvent.{ClientEvent}
 use Rattle.cluster_msgs.specs.declared.cores.ClientEvent.TheVariants.{Want as WantKeys, Release as ReleaseKeys, FromScheduler, Ask as ClientAsk, Gathered as ClientGathered, GatherFailed as ClientGatherFailed}
 use Rattle.cluster_msgs.specs.declared.events.Asker.{Asker}
 use Rattle.cluster_msgs.specs.declared.events.Asker.TheVariants.{Worker, Client}
 use Rattle.cluster_msgs.specs.declared.events.Event.{Event}
-use Rattle.cluster_msgs.specs.declared.events.Event.TheVariants.{Want, Release, Join, Lose, SeeLoss, Suspect, DeliverDown, DeliverUp, DeliverToClient, DeliverFromClient, Start, Finish, SendGather, ServeGather, ArriveGather, FailGather, Balance, Evict, Spill, LoseSpilled}
+use Rattle.cluster_msgs.specs.declared.events.Event.TheVariants.{Want, Release, Join, Lose, SeeLoss, Suspect, DeliverDown, DeliverUp, DeliverToClient, DeliverFromClient, Start, Finish, SendGather, ServeGather, ArriveGather, FailGather, Balance, Evict, Replicate, Spill, LoseSpilled}
 use Rattle.cluster_rules.specs.World.{Job, World, Parcel, shape_of, is_connected, is_asker, open_ask, parcel_of, without_parcel}
 use Rattle.cluster_rules.specs.WorldStep.{scheduled, worked, client_worked, at_scheduler, at_worker, at_client, new_at, died, cut_off, take_down_first, take_up, take_up_first, take_to_client, take_from_client, ask_by, gathered_at, serve, take_answer, fail_ask, world_step}
 use Rattle.cluster_rules.specs.Enabled.{enabled, may_ask}
@@ -102,6 +102,10 @@ module _ (N : ℕ) where
   refresh_named x l k true = (who_named x l (k ∷ []), tt)
   refresh_named x l k false = tt
 
+  acquire_named : (x : Facts) → x.last_worker ≤ N → (k : ℕ) (b : Bool) → AllByRecursion (AreNumbersDown N) (cond b (AcquireReplicas (who_has x (k ∷ [])) ∷ []) [])
+  acquire_named x l k true = (who_named x l (k ∷ []), tt)
+  acquire_named x l k false = tt
+
   ask_named : (q : ℕ) (o : Option (ℕ × ℕ)) (w : ℕ) → AllByRecursion (AreNumbersDown N) (ask_message q o w)
   ask_named q None w = tt
   ask_named q (Some p) w = pick (eqb p.0 w)
@@ -145,6 +149,7 @@ module _ (N : ℕ) where
   answers_named f (FromClient c (MissingMessage k y n)) x l w = lost_named f y k n x l w
   answers_named f BalanceSched x l w = balanced_named f (next_steal f) x l w
   answers_named f EvictSched x l w = evicted_named f (next_drop f) x l w
+  answers_named f (ReplicateSched k v) x l w = acquire_named x l k (eqb w v)
 
   down_named : (f : Facts) (s : SchedEvent) → (sched_step f s).facts.last_worker ≤ N → DownNamed (sched_step f s).down
   unfolding sched_step finish_step posted down_messages to_worker task_messages settle
@@ -699,5 +704,6 @@ named_step j w (ArriveGather a p n) t h = named_answer w (parcel_of a p n w.answ
 named_step j w (FailGather a p) t h = named_fails w a p (open_ask w a p) h
 named_step j w Balance t h = by_scheduler w BalanceSched h
 named_step j w Evict t h = by_scheduler w EvictSched h
+named_step j w (Replicate k i) t h = by_scheduler w (ReplicateSched k i) h
 named_step j w (Spill i k) t h = record { holders = h.holders; asks = h.asks; located = h.located; client_asks = h.client_asks; down = h.down; news = h.news }
 named_step j w (LoseSpilled i k) t h = by_worker w i (DataLost k) tt h

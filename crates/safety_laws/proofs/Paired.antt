@@ -11,7 +11,7 @@ use Rattle.cluster_msgs.specs.declared.messages.Up.{Up}
 use Rattle.cluster_msgs.specs.declared.messages.ToClient.{ToClient}
 use Rattle.cluster_msgs.specs.declared.messages.FromClient.{FromClient as ClientMessage}
 use Rattle.cluster_msgs.specs.declared.cores.SchedEvent.{SchedEvent}
-use Rattle.cluster_msgs.specs.declared.cores.SchedEvent.TheVariants.{Join as JoinSched, Leave, FromWorker, FromClient, Balance as BalanceSched, Evict as EvictSched}
+use Rattle.cluster_msgs.specs.declared.cores.SchedEvent.TheVariants.{Join as JoinSched, Leave, FromWorker, FromClient, Balance as BalanceSched, Evict as EvictSched, Replicate as ReplicateSched}
 use Rattle.cluster_msgs.specs.declared.cores.WorkerEvent.{WorkerEvent}
 use Rattle.cluster_msgs.specs.declared.cores.WorkerEvent.TheVariants.{Down as Told, Start as StartTask, Done, Ask as AskPeer, Gathered, GatherFailed, DataLost}
 use Rattle.cluster_msgs.specs.declared.cores.ClientEvent.{ClientEvent}
@@ -19,7 +19,7 @@ use Rattle.cluster_msgs.specs.declared.cores.ClientEvent.TheVariants.{Want as Wa
 use Rattle.cluster_msgs.specs.declared.events.Asker.{Asker}
 use Rattle.cluster_msgs.specs.declared.events.Asker.TheVariants.{Worker, Client}
 use Rattle.cluster_msgs.specs.declared.events.Event.{Event}
-use Rattle.cluster_msgs.specs.declared.events.Event.TheVariants.{Want, Release, Join, Lose, SeeLoss, Suspect, DeliverDown, DeliverUp, DeliverToClient, DeliverFromClient, Start, Finish, SendGather, ServeGather, ArriveGather, FailGather, Balance, Evict, Spill, LoseSpilled}
+use Rattle.cluster_msgs.specs.declared.events.Event.TheVariants.{Want, Release, Join, Lose, SeeLoss, Suspect, DeliverDown, DeliverUp, DeliverToClient, DeliverFromClient, Start, Finish, SendGather, ServeGather, ArriveGather, FailGather, Balance, Evict, Replicate, Spill, LoseSpilled}
 use Rattle.cluster_rules.specs.Functions.{put}
 use Rattle.cluster_rules.specs.Sched.{Facts, IsSound, keys, holds, connected, is_for}
 use Rattle.cluster_rules.specs.SchedTable.{is_asked_back, change, sched_takes}
@@ -41,7 +41,8 @@ use Rattle.cluster_laws.proofs.Framed.{change_framed}
 use Rattle.pair_moves.proofs.Events.{event_keeps}
 use Rattle.pair_moves.proofs.WorkerMoves.{pair_closed, own_keeps, told_keeps, IsOwn, reports-append}
 use Rattle.safety_laws.specs.Joint.{side_of, pair_at, IsPaired}
-use Rattle.safety_laws.proofs.Turns.{sched_after, nothing_sent, down_there, key_there, keys_there, up_taken, letter_taken}
+use Rattle.cluster_laws.proofs.SchedPart.{sched_after}
+use Rattle.safety_laws.proofs.Turns.{nothing_sent, down_there, key_there, keys_there, up_taken, letter_taken}
 use Rattle.safety_laws.proofs.Homes.{IsHome}
 
 -- a message that says nothing of the key, in front of those under way
@@ -311,6 +312,7 @@ module _ (j : Job) (w : World) (inside : IsInsideWorld j.setting.shape w) (sound
   paired_step (FailGather a p) t = p_failed a p (open_ask w a p)
   paired_step Balance t = p_plain BalanceSched t refl
   paired_step Evict t = p_plain EvictSched t refl
+  paired_step (Replicate q x) t = p_plain (ReplicateSched q x) t refl
   paired_step (Spill x q) t = same_pair
   paired_step (LoseSpilled x q) t = let b = and_parts (w.alive x) (w.spilled x q) t in
       p_own w x (DataLost q) tt (and_from _ _ (key_there j.setting.shape (w.workers x).shape (inside.workers x).shape q (inside.spilled x q b.1)) (home.spilled x q b.1)) same_pair

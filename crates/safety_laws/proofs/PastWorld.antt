@@ -12,7 +12,7 @@ use Rattle.cluster_msgs.specs.declared.messages.Up.{Up}
 use Rattle.cluster_msgs.specs.declared.messages.ToClient.{ToClient}
 use Rattle.cluster_msgs.specs.declared.messages.FromClient.{FromClient as ClientMessage}
 use Rattle.cluster_msgs.specs.declared.cores.SchedEvent.{SchedEvent}
-use Rattle.cluster_msgs.specs.declared.cores.SchedEvent.TheVariants.{Join as JoinSched, Leave, FromWorker, FromClient, Balance as BalanceSched, Evict as EvictSched}
+use Rattle.cluster_msgs.specs.declared.cores.SchedEvent.TheVariants.{Join as JoinSched, Leave, FromWorker, FromClient, Balance as BalanceSched, Evict as EvictSched, Replicate as ReplicateSched}
 use Rattle.cluster_msgs.specs.declared.cores.WorkerEvent.{WorkerEvent}
 use Rattle.cluster_msgs.specs.declared.cores.WorkerEvent.TheVariants.{Down as Told, Start as StartTask, Done, Ask as AskPeer, Gathered, GatherFailed, DataLost}
 use Rattle.cluster_msgs.specs.declared.cores.ClientEvent.{ClientEvent}
@@ -20,7 +20,7 @@ use Rattle.cluster_msgs.specs.declared.cores.ClientEvent.TheVariants.{Want as Wa
 use Rattle.cluster_msgs.specs.declared.events.Asker.{Asker}
 use Rattle.cluster_msgs.specs.declared.events.Asker.TheVariants.{Worker, Client}
 use Rattle.cluster_msgs.specs.declared.events.Event.{Event}
-use Rattle.cluster_msgs.specs.declared.events.Event.TheVariants.{Want, Release, Join, Lose, SeeLoss, Suspect, DeliverDown, DeliverUp, DeliverToClient, DeliverFromClient, Start, Finish, SendGather, ServeGather, ArriveGather, FailGather, Balance, Evict, Spill, LoseSpilled}
+use Rattle.cluster_msgs.specs.declared.events.Event.TheVariants.{Want, Release, Join, Lose, SeeLoss, Suspect, DeliverDown, DeliverUp, DeliverToClient, DeliverFromClient, Start, Finish, SendGather, ServeGather, ArriveGather, FailGather, Balance, Evict, Replicate, Spill, LoseSpilled}
 use Rattle.cluster_rules.specs.Functions.{put}
 use Rattle.cluster_rules.specs.Sched.{Facts}
 use Rattle.cluster_rules.specs.SchedStep.{sched_step, mail}
@@ -292,6 +292,7 @@ module _ (j : Job) (w : World) (inside : IsInsideWorld j.setting.shape w) (settl
   both_step (FailGather a p) t i k = t_failed j w inside settled numbered home (past.started i k) (past.yielded i k) i k a p (open_ask w a p) (at i k)
   both_step Balance t i k = t_scheduler j w inside settled numbered home (past.started i k) (past.yielded i k) i k w BalanceSched refl (at i k)
   both_step Evict t i k = t_scheduler j w inside settled numbered home (past.started i k) (past.yielded i k) i k w EvictSched refl (at i k)
+  both_step (Replicate q x) t i k = t_scheduler j w inside settled numbered home (past.started i k) (past.yielded i k) i k w (ReplicateSched q x) refl (at i k)
   both_step (Spill x q) t i k = at i k
   both_step (LoseSpilled x q) t i k = let b = and_parts (w.alive x) (w.spilled x q) t in
       t_own j w inside settled numbered home (past.started i k) (past.yielded i k) i k w x (DataLost q) tt (λ a. tt) (and_from _ _ (key_there j.setting.shape (w.workers x).shape (inside.workers x).shape q (inside.spilled x q b.1)) (home.spilled x q b.1)) (at i k)

@@ -6,9 +6,9 @@ use Rattle.std.proofs.Math.Dec.{eqb}
 use Rattle.small_facts.proofs.Truth.{one_at_most}
 use Rattle.cluster_msgs.specs.declared.cores.Steal.{Steal}
 use Rattle.cluster_msgs.specs.declared.cores.SchedEvent.{SchedEvent}
-use Rattle.cluster_msgs.specs.declared.cores.SchedEvent.TheVariants.{Join, Leave, FromWorker, FromClient, Balance, Evict}
+use Rattle.cluster_msgs.specs.declared.cores.SchedEvent.TheVariants.{Join, Leave, FromWorker, FromClient, Balance, Evict, Replicate}
 use Rattle.cluster_msgs.specs.declared.messages.Down.{Down}
-use Rattle.cluster_msgs.specs.declared.messages.Down.TheVariants.{StealRequest, RemoveReplicas, RefreshWhoHas}
+use Rattle.cluster_msgs.specs.declared.messages.Down.TheVariants.{StealRequest, RemoveReplicas, AcquireReplicas, RefreshWhoHas}
 use Rattle.cluster_msgs.specs.declared.messages.Up.{Up}
 use Rattle.cluster_msgs.specs.declared.messages.Up.TheVariants.{TaskFinished, TaskErred, AddKeys, ReleaseWorkerData, MissingData, RequestRefreshWhoHas, StealResponse}
 use Rattle.cluster_msgs.specs.declared.messages.FromClient.{FromClient as FromClientMessage}
@@ -79,6 +79,10 @@ answer_refresh : (k a : ℕ) (b : Bool) (ws : List (ℕ × List (ℕ × ℕ))) �
 answer_refresh k a true ws = refl
 answer_refresh k a false ws = refl
 
+answer_acquire : (k a : ℕ) (b : Bool) (ws : List (ℕ × List (ℕ × ℕ))) → given_count a (notes k (cond b (AcquireReplicas ws ∷ []) [])) ≡ 0
+answer_acquire k a true ws = refl
+answer_acquire k a false ws = refl
+
 answer_ask : (k a q : ℕ) (o : Option (ℕ × ℕ)) (i : ℕ) → given_count a (notes k (ask_message q o i)) ≡ 0
 answer_ask k a q None i = refl
 answer_ask k a q (Some p) i = pick (eqb p.0 i) (eqb q k)
@@ -128,6 +132,7 @@ answers_give f (FromWorker v m) k a i x = answer_up f v m k a i x
 answers_give f (FromClient c m) k a i x = answer_client f c m k a i x
 answers_give f Balance k a i x = answer_balanced f (next_steal f) k a i x
 answers_give f Evict k a i x = answer_evicted f (next_drop f) k a i x
+answers_give f (Replicate q v) k a i x = answer_acquire k a (eqb i v) _
 
 -- together
 posts_given : (f : Facts) (s : SchedEvent) (i k a : ℕ) → given_count a (notes k (mail i (sched_step f s).down)) ≤ at_count a (new_at f.counter i ((sched_step f s).facts.on k))

@@ -1,7 +1,7 @@
 -- Schedule safety, put together.
 use Rattle.cluster_msgs.specs.Shape.{IsShape}
 use Rattle.cluster_rules.specs.Sched.{Setting, Facts, IsSound, erred, held, known, need, phase}
-use Rattle.std.proofs.Common.{◌≤◌, ◌≡◌, ◌⊎◌, inl, inr, ℕ, Bool, true, false, List, ◌++◌, Option, Some, None, is_some, refl, sym, ◌∙◌, subst}
+use Rattle.std.proofs.Common.{◌≤◌, ◌≡◌, ◌⊎◌, inl, inr, ℕ, zero, suc, arith, Bool, true, false, List, ◌++◌, Option, Some, None, is_some, refl, sym, ◌∙◌, subst}
 use Rattle.std.proofs.lemmas.Bool.{true≢false, false_from_ne_true}
 use Rattle.cluster_msgs.specs.declared.cores.Phase.TheVariants.{Erred, Released}
 use Rattle.cluster_msgs.specs.declared.events.Event.{Event}
@@ -25,6 +25,10 @@ let_go f h = record { forgotten = forgotten; let_go = released }
     none_of None n = refl
     none_of (Some x) n = absurd (n refl)
 
+    none_counted : (n : ℕ) → (1 ≤ n → ⊥) → n ≡ 0
+    none_counted zero n = refl
+    none_counted (suc m) n = absurd (n (omega arith))
+
     not_known : (k : ℕ) → known f k ≡ false → known f k ≡ true → ⊥
     not_known k e t = true≢false (sym t ∙ e)
 
@@ -38,6 +42,7 @@ let_go f h = record { forgotten = forgotten; let_go = released }
       on = none_of (f.on k) (λ t. not_known k e (h.on k t));
       steal = none_of (f.steal k) (λ t. not_known k e (h.steal k t));
       bad = false_from_ne_true (f.bad k) (λ t. not_known k e (h.bad k t));
+      losses = none_counted (f.losses k) (λ l. not_known k e (h.losses k l));
     }
 
     released : (k : ℕ) → known f k ≡ true → need f k ≡ false → IsLetGo f k

@@ -13,11 +13,11 @@ use Rattle.cluster_msgs.specs.declared.messages.FromClient.{FromClient as Client
 use Rattle.cluster_msgs.specs.declared.messages.FromClient.TheVariants.{Want as WantMessage, Release as ReleaseMessage, Missing}
 use Rattle.cluster_msgs.specs.declared.cores.Steal.{Steal}
 use Rattle.cluster_msgs.specs.declared.cores.SchedEvent.{SchedEvent}
-use Rattle.cluster_msgs.specs.declared.cores.SchedEvent.TheVariants.{Join as JoinSched, Leave, FromWorker, FromClient, Balance as BalanceSched, Evict as EvictSched}
+use Rattle.cluster_msgs.specs.declared.cores.SchedEvent.TheVariants.{Join as JoinSched, Leave, FromWorker, FromClient, Balance as BalanceSched, Evict as EvictSched, Replicate as ReplicateSched}
 use Rattle.cluster_msgs.specs.declared.events.Asker.{Asker}
 use Rattle.cluster_msgs.specs.declared.events.Asker.TheVariants.{Worker, Client}
 use Rattle.cluster_msgs.specs.declared.events.Event.{Event}
-use Rattle.cluster_msgs.specs.declared.events.Event.TheVariants.{Want, Release, Join, Lose, SeeLoss, Suspect, DeliverDown, DeliverUp, DeliverToClient, DeliverFromClient, Start, Finish, SendGather, ServeGather, ArriveGather, FailGather, Balance, Evict, Spill, LoseSpilled}
+use Rattle.cluster_msgs.specs.declared.events.Event.TheVariants.{Want, Release, Join, Lose, SeeLoss, Suspect, DeliverDown, DeliverUp, DeliverToClient, DeliverFromClient, Start, Finish, SendGather, ServeGather, ArriveGather, FailGather, Balance, Evict, Replicate, Spill, LoseSpilled}
 use Rattle.cluster_rules.specs.Functions.{put}
 use Rattle.cluster_rules.specs.Sched.{Facts, connected, holds, held, is_on}
 use Rattle.cluster_rules.specs.Policies.{next_steal, next_drop}
@@ -29,7 +29,7 @@ use Rattle.cluster_rules.specs.WorldStep.{scheduled, worked, client_worked, take
 use Rattle.cluster_rules.specs.Enabled.{enabled, front}
 use Rattle.cluster_rules.specs.Runs.{sched_event}
 use Rattle.cluster_rules.proofs.SchedFrame.{step_settles}
-use Rattle.safety_laws.proofs.Turns.{sched_after, sched_is}
+use Rattle.cluster_laws.proofs.SchedPart.{sched_after, sched_is}
 
 -- ## Who is connected
 
@@ -109,6 +109,7 @@ leaves (FromWorker w m) i = false
 leaves (FromClient c m) i = false
 leaves BalanceSched i = false
 leaves EvictSched i = false
+leaves (ReplicateSched k w) i = false
 
 connected_change : (f : Facts) (s : SchedEvent) (i : ℕ) → leaves s i ≡ false → connected f i ≡ true → connected (change f s).facts i ≡ true
 unfolding joined left
@@ -122,6 +123,7 @@ connected_change f (FromWorker w m) i l c = ap (λ (t : ℕ → Option ℕ). is_
 connected_change f (FromClient x m) i l c = ap (λ (t : ℕ → Option ℕ). is_some (t i)) (client_alike f x m) ∙ c
 connected_change f BalanceSched i l c = ap (λ (t : ℕ → Option ℕ). is_some (t i)) (balanced_alike f (next_steal f)) ∙ c
 connected_change f EvictSched i l c = ap (λ (t : ℕ → Option ℕ). is_some (t i)) (evicted_alike f (next_drop f)) ∙ c
+connected_change f (ReplicateSched k w) i l c = c
 
 connected_step : (f : Facts) (s : SchedEvent) (i : ℕ) → leaves s i ≡ false → connected f i ≡ true → connected (sched_step f s).facts i ≡ true
 connected_step f s i l c = ap (λ (t : ℕ → Option ℕ). is_some (t i)) (step_settles f s).threads ∙ connected_change f s i l c
@@ -129,6 +131,40 @@ connected_step f s i l c = ap (λ (t : ℕ → Option ℕ). is_some (t i)) (step
 connected_joined : (f : Facts) (threads : ℕ) → connected (sched_step f (JoinSched threads)).facts (f.last_worker + 1) ≡ true
 unfolding joined
 connected_joined f threads = ap (λ (t : ℕ → Option ℕ). is_some (t (f.last_worker + 1))) (step_settles f (JoinSched threads)).threads ∙ ap (λ b. is_some (cond b (Some threads) (f.threads (f.last_worker + 1)))) (eq-eqb (f.last_worker + 1) (f.last_worker + 1) refl)
+
+-- a worker that left isn't connected
+pub left_gone : (f : Facts) (i : ℕ) → connected (sched_step f (Leave i)).facts i ≡ false
+unfolding left
+left_gone f i = ap (λ (t : ℕ → Option ℕ). is_some (t i)) (step_settles f (Leave i)).threads ∙ ap (λ b. is_some (cond b None (f.threads i))) (eq-eqb i i refl)
+
+-- the event takes that a worker joins
+abbrev pub lets_join : Option SchedEvent → Bool
+lets_join (Some (JoinSched threads)) = true
+lets_join o = false
+
+-- nobody but who joins is connected anew
+before_change : (f : Facts) (s : SchedEvent) (i : ℕ) → lets_join (Some s) ≡ false → connected (change f s).facts i ≡ true → connected f i ≡ true
+unfolding left
+before_change f (JoinSched threads) i l c = absurd (true≢false l)
+before_change f (Leave w) i l c = by (i == w) c
+  where
+    by : (b : Bool) → is_some (cond b None (f.threads i)) ≡ true → is_some (f.threads i) ≡ true
+    by true c = absurd (false≢true c)
+    by false c = c
+before_change f (FromWorker w m) i l c = sym (ap (λ (t : ℕ → Option ℕ). is_some (t i)) (up_alike f w m)) ∙ c
+before_change f (FromClient x m) i l c = sym (ap (λ (t : ℕ → Option ℕ). is_some (t i)) (client_alike f x m)) ∙ c
+before_change f BalanceSched i l c = sym (ap (λ (t : ℕ → Option ℕ). is_some (t i)) (balanced_alike f (next_steal f))) ∙ c
+before_change f EvictSched i l c = sym (ap (λ (t : ℕ → Option ℕ). is_some (t i)) (evicted_alike f (next_drop f))) ∙ c
+before_change f (ReplicateSched k w) i l c = c
+
+pub connected_before : (f : Facts) (o : Option SchedEvent) (i : ℕ) → lets_join o ≡ false → connected (sched_after f o) i ≡ true → connected f i ≡ true
+connected_before f None i l c = c
+connected_before f (Some s) i l c = before_change f s i l (sym (ap (λ (t : ℕ → Option ℕ). is_some (t i)) (step_settles f s).threads) ∙ c)
+
+pub joined_before : (f : Facts) (threads i : ℕ) → (i == f.last_worker + 1) ≡ false → connected (sched_step f (JoinSched threads)).facts i ≡ true → connected f i ≡ true
+unfolding joined
+joined_before f threads i other c =
+    sym (ap (λ (t : ℕ → Option ℕ). is_some (t i)) (step_settles f (JoinSched threads)).threads ∙ ap (λ b. is_some (cond b (Some threads) (f.threads i))) other) ∙ c
 
 -- ## Who is alive
 
@@ -214,6 +250,7 @@ alive_stays j w (ArriveGather x p n) i t a = ap (λ (y : ℕ → Bool). y i) (al
 alive_stays j w (FailGather x p) i t a = ap (λ (y : ℕ → Bool). y i) (alive_fails w x p (open_ask w x p)) ∙ a
 alive_stays j w Balance i t a = a
 alive_stays j w Evict i t a = a
+alive_stays j w (Replicate k v) i t a = a
 alive_stays j w (Spill v k) i t a = a
 alive_stays j w (LoseSpilled v k) i t a = a
 
@@ -244,6 +281,7 @@ nobody_leaves w (DeliverUp v) i t h a s e = up_leaves i v (w.up v) (is_connected
 nobody_leaves w (DeliverFromClient c) i t h a s e = letter_leaves i c (w.from_client c) s e
 nobody_leaves w Balance i t h a s e = sym (ap (λ x. leaves x i) (same_Some BalanceSched s e))
 nobody_leaves w Evict i t h a s e = sym (ap (λ x. leaves x i) (same_Some EvictSched s e))
+nobody_leaves w (Replicate k v) i t h a s e = sym (ap (λ x. leaves x i) (same_Some (ReplicateSched k v) s e))
 nobody_leaves w (Want c ks) i t h a s e = absurd (none-some s e)
 nobody_leaves w (Release c ks) i t h a s e = absurd (none-some s e)
 nobody_leaves w (Lose v) i t h a s e = absurd (none-some s e)

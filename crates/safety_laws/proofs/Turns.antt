@@ -10,109 +10,31 @@ use Rattle.cluster_msgs.specs.Shape.{Shape, key_count}
 use Rattle.cluster_msgs.specs.declared.messages.Down.{Down}
 use Rattle.cluster_msgs.specs.declared.messages.Down.TheVariants.{ComputeTask, FreeKeys, StealRequest, RemoveReplicas, AcquireReplicas, RefreshWhoHas}
 use Rattle.cluster_msgs.specs.declared.messages.Up.{Up}
-use Rattle.cluster_msgs.specs.declared.messages.ToClient.{ToClient}
 use Rattle.cluster_msgs.specs.declared.messages.FromClient.{FromClient as ClientMessage}
 use Rattle.cluster_msgs.specs.declared.cores.SchedEvent.{SchedEvent}
-use Rattle.cluster_msgs.specs.declared.cores.SchedEvent.TheVariants.{Join as JoinSched, Leave, FromWorker, FromClient, Balance as BalanceSched, Evict as EvictSched}
-use Rattle.cluster_msgs.specs.declared.events.Asker.{Asker}
-use Rattle.cluster_msgs.specs.declared.events.Asker.TheVariants.{Worker, Client}
+use Rattle.cluster_msgs.specs.declared.cores.SchedEvent.TheVariants.{Join as JoinSched, Leave, FromWorker, FromClient, Balance as BalanceSched, Evict as EvictSched, Replicate as ReplicateSched}
 use Rattle.cluster_msgs.specs.declared.events.Event.{Event}
-use Rattle.cluster_msgs.specs.declared.events.Event.TheVariants.{Want, Release, Join, Lose, SeeLoss, Suspect, DeliverDown, DeliverUp, DeliverToClient, DeliverFromClient, Start, Finish, SendGather, ServeGather, ArriveGather, FailGather, Balance, Evict, Spill, LoseSpilled}
+use Rattle.cluster_msgs.specs.declared.events.Event.TheVariants.{Want, Release, Join, Lose, SeeLoss, Suspect, DeliverDown, DeliverUp, DeliverToClient, DeliverFromClient, Start, Finish, SendGather, ServeGather, ArriveGather, FailGather, Balance, Evict, Replicate, Spill, LoseSpilled}
 use Rattle.cluster_rules.specs.Sched.{Facts, keys, connected, workers}
 use Rattle.cluster_rules.specs.SchedTable.{up_keys, client_keys, sched_takes}
 use Rattle.cluster_rules.specs.SchedTable.{change}
-use Rattle.cluster_rules.specs.Functions.{put, from_one}
+use Rattle.cluster_rules.specs.Functions.{from_one}
 use Rattle.cluster_rules.specs.Derived.{below, is_in}
 use Rattle.cluster_rules.specs.SchedStep.{Stages, sched_step, mail, settle, posted, finish_step, place_all, place_keys, drop_bad, drop_has, drop_on, down_messages, fence_after, to_worker}
 use Rattle.cluster_rules.proofs.SchedFrame.{IsPlacing, placing_keys, count_to-mail, step_settles}
 use Rattle.cluster_laws.proofs.Framed.{change_framed}
-use Rattle.cluster_rules.specs.Worker.{Ask, WorkerFacts, has_any}
+use Rattle.cluster_laws.proofs.SchedPart.{sched_after, sched_is}
+use Rattle.cluster_rules.specs.Worker.{WorkerFacts, has_any}
 use Rattle.cluster_rules.specs.WorkerStep.{takes_down}
-use Rattle.cluster_rules.specs.World.{Job, World, Parcel, shape_of, is_connected, is_client, open_ask, parcel_of}
-use Rattle.cluster_rules.specs.WorldStep.{scheduled, worked, client_worked, take_down_first, take_up, take_up_first, take_to_client, take_from_client, ask_by, gathered_at, failed_at, serve, take_answer, fail_ask, world_step}
+use Rattle.cluster_rules.specs.World.{Job, World, shape_of, is_connected, is_client}
+use Rattle.cluster_rules.specs.WorldStep.{world_step}
 use Rattle.cluster_rules.specs.Enabled.{enabled, front}
 use Rattle.cluster_rules.specs.Inside.{IsKey, AreKeys, named_keys, down_keys, IsInsideWorld}
 use Rattle.cluster_rules.specs.Runs.{sched_event}
 use Rattle.cluster_laws.proofs.OrderLemmas.{mail-down}
 use Rattle.cluster_rules.proofs.WorkerLemmas.{in_filter}
 
--- ## The scheduler's part
-
-abbrev pub sched_after : Facts → Option SchedEvent → Facts
-sched_after f None = f
-sched_after f (Some s) = (sched_step f s).facts
-
-sched_gathered : (w : World) (a : Asker) (p n : ℕ) (found : List ℕ) → (gathered_at w a p n found).sched ≡ w.sched
-unfolding worked client_worked
-sched_gathered w (Worker i) p n found = refl
-sched_gathered w (Client c) p n found = refl
-
-sched_failed : (w : World) (a : Asker) (p n : ℕ) → (failed_at w a p n).sched ≡ w.sched
-unfolding worked client_worked
-sched_failed w (Worker i) p n = refl
-sched_failed w (Client c) p n = refl
-
-sched_asks : (w : World) (a : Asker) (p : ℕ) → (ask_by w a p).sched ≡ w.sched
-unfolding worked client_worked
-sched_asks w (Worker i) p = refl
-sched_asks w (Client c) p = refl
-
-sched_serves : (w : World) (p : ℕ) (o : Option Parcel) → (serve w p o).sched ≡ w.sched
-sched_serves w p None = refl
-sched_serves w p (Some q) = refl
-
-sched_answer : (w : World) (o : Option Parcel) → (take_answer w o).sched ≡ w.sched
-sched_answer w None = refl
-sched_answer w (Some q) = sched_gathered _ q.asker q.peer q.ask q.keys
-
-sched_fails : (w : World) (a : Asker) (p : ℕ) (o : Option Ask) → (fail_ask w a p o).sched ≡ w.sched
-sched_fails w a p None = refl
-sched_fails w a p (Some q) = sched_failed w a p q.number
-
-sched_down : (w : World) (i : ℕ) (ms : List Down) → (take_down_first w i ms).sched ≡ w.sched
-unfolding worked
-sched_down w i [] = refl
-sched_down w i (m ∷ ms) = refl
-
-sched_to_client : (w : World) (c : ℕ) (ms : List ToClient) → (take_to_client w c ms).sched ≡ w.sched
-unfolding client_worked
-sched_to_client w c [] = refl
-sched_to_client w c (m ∷ ms) = refl
-
-sched_from_client : (w : World) (c : ℕ) (ms : List ClientMessage) → (take_from_client w c ms).sched ≡ sched_after w.sched (option_map (λ m. FromClient c m) (front ms))
-unfolding scheduled
-sched_from_client w c [] = refl
-sched_from_client w c (m ∷ ms) = refl
-
-sched_up : (w : World) (i : ℕ) (ms : List Up) (b : Bool) → is_connected w i ≡ b → (take_up_first w i ms).sched ≡ sched_after w.sched (cond b (option_map (λ m. FromWorker i m) (front ms)) None)
-unfolding scheduled
-sched_up w i [] true e = refl
-sched_up w i [] false e = refl
-sched_up w i (m ∷ ms) true e = ap (λ b. (take_up (record w { up = put w.up i ms }) i m b).sched) e
-sched_up w i (m ∷ ms) false e = ap (λ b. (take_up (record w { up = put w.up i ms }) i m b).sched) e
-
-pub sched_is : (j : Job) (w : World) (e : Event) → (world_step j w e).sched ≡ sched_after w.sched (sched_event w e)
-unfolding world_step scheduled worked client_worked
-sched_is j w (Want c ks) = refl
-sched_is j w (Release c ks) = refl
-sched_is j w (Join threads) = refl
-sched_is j w (Lose i) = refl
-sched_is j w (SeeLoss i) = refl
-sched_is j w (Suspect i) = refl
-sched_is j w (DeliverDown i) = sched_down w i (w.down i)
-sched_is j w (DeliverUp i) = sched_up w i (w.up i) (is_connected w i) refl
-sched_is j w (DeliverToClient c) = sched_to_client w c (w.to_client c)
-sched_is j w (DeliverFromClient c) = sched_from_client w c (w.from_client c)
-sched_is j w (Start i) = refl
-sched_is j w (Finish i k) = refl
-sched_is j w (SendGather a p) = sched_asks w a p
-sched_is j w (ServeGather p a n) = sched_serves w p (parcel_of a p n w.requests)
-sched_is j w (ArriveGather a p n) = sched_answer w (parcel_of a p n w.answers)
-sched_is j w (FailGather a p) = sched_fails w a p (open_ask w a p)
-sched_is j w Balance = refl
-sched_is j w Evict = refl
-sched_is j w (Spill i k) = refl
-sched_is j w (LoseSpilled i k) = refl
+-- ## No event changes the setting
 
 setting_after : (f : Facts) (o : Option SchedEvent) → (sched_after f o).setting ≡ f.setting
 setting_after f None = refl
@@ -170,6 +92,7 @@ module _ (g : Shape) (w : World) (h : IsInsideWorld g w) where
   event_taken l (DeliverFromClient c) s t e = letter_event c s (w.from_client c) refl (λ m ms q. l c t) e
   event_taken l Balance s t e = subst (λ x. sched_takes w.sched x ≡ true) (same_Some BalanceSched s e) t
   event_taken l Evict s t e = subst (λ x. sched_takes w.sched x ≡ true) (same_Some EvictSched s e) t
+  event_taken l (Replicate k i) s t e = subst (λ x. sched_takes w.sched x ≡ true) (same_Some (ReplicateSched k i) s e) t
   event_taken l (Want c ks) s t e = absurd (none-some s e)
   event_taken l (Release c ks) s t e = absurd (none-some s e)
   event_taken l (Lose i) s t e = absurd (none-some s e)

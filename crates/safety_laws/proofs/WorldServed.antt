@@ -13,13 +13,13 @@ use Rattle.cluster_msgs.specs.declared.messages.Up.{Up}
 use Rattle.cluster_msgs.specs.declared.messages.ToClient.{ToClient}
 use Rattle.cluster_msgs.specs.declared.messages.FromClient.{FromClient as ClientMessage}
 use Rattle.cluster_msgs.specs.declared.cores.SchedEvent.{SchedEvent}
-use Rattle.cluster_msgs.specs.declared.cores.SchedEvent.TheVariants.{Join as JoinSched, Leave, FromWorker, FromClient, Balance as BalanceSched, Evict as EvictSched}
+use Rattle.cluster_msgs.specs.declared.cores.SchedEvent.TheVariants.{Join as JoinSched, Leave, FromWorker, FromClient, Balance as BalanceSched, Evict as EvictSched, Replicate as ReplicateSched}
 use Rattle.cluster_msgs.specs.declared.cores.ClientEvent.{ClientEvent}
 use Rattle.cluster_msgs.specs.declared.cores.ClientEvent.TheVariants.{Want as WantKeys, Release as ReleaseKeys, FromScheduler, Ask as ClientAsk, Gathered as ClientGathered, GatherFailed as ClientGatherFailed}
 use Rattle.cluster_msgs.specs.declared.events.Asker.{Asker}
 use Rattle.cluster_msgs.specs.declared.events.Asker.TheVariants.{Worker, Client}
 use Rattle.cluster_msgs.specs.declared.events.Event.{Event}
-use Rattle.cluster_msgs.specs.declared.events.Event.TheVariants.{Want, Release, Join, Lose, SeeLoss, Suspect, DeliverDown, DeliverUp, DeliverToClient, DeliverFromClient, Start, Finish, SendGather, ServeGather, ArriveGather, FailGather, Balance, Evict, Spill, LoseSpilled}
+use Rattle.cluster_msgs.specs.declared.events.Event.TheVariants.{Want, Release, Join, Lose, SeeLoss, Suspect, DeliverDown, DeliverUp, DeliverToClient, DeliverFromClient, Start, Finish, SendGather, ServeGather, ArriveGather, FailGather, Balance, Evict, Replicate, Spill, LoseSpilled}
 use Rattle.cluster_rules.specs.World.{Job, World, Parcel, is_connected, is_asker, open_ask, parcel_of, without_parcel}
 use Rattle.cluster_rules.specs.WorldStep.{scheduled, worked, client_worked, at_scheduler, at_worker, at_client, new_at, died, cut_off, take_down_first, take_up, take_up_first, take_to_client, take_from_client, ask_by, gathered_at, serve, take_answer, fail_ask, world_step}
 use Rattle.cluster_rules.specs.Enabled.{enabled, may_ask, front}
@@ -152,6 +152,7 @@ differ_step j w (ArriveGather a p n) t h = ds_answer w (parcel_of a p n w.answer
 differ_step j w (FailGather a p) t h = ds_failed w a p (open_ask w a p) h
 differ_step j w Balance t h = ds_scheduler w BalanceSched h
 differ_step j w Evict t h = ds_scheduler w EvictSched h
+differ_step j w (Replicate k i) t h = ds_scheduler w (ReplicateSched k i) h
 differ_step j w (Spill i k) t h = h
 differ_step j w (LoseSpilled i k) t h = ds_worker w i (DataLost k) h
 
@@ -271,5 +272,6 @@ module _ (w : World) (sound : IsSound w.sched) (differ : AsksDiffer w) (c k : â„
   served_step j (FailGather a p) t = sv_failed a p (open_ask w a p)
   served_step j Balance t = sv_quiet BalanceSched tt (t BalanceSched refl)
   served_step j Evict t = sv_quiet EvictSched tt (t EvictSched refl)
+  served_step j (Replicate q i) t = sv_quiet (ReplicateSched q i) tt (t (ReplicateSched q i) refl)
   served_step j (Spill i q) t = served_same w c k (spill w i q) refl refl refl refl h
   served_step j (LoseSpilled i q) t = sv_worker w i (DataLost q) refl refl refl refl

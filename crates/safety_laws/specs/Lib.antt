@@ -3,3 +3,4 @@ pub mod Past
 pub mod Lively
 pub mod Attempts
 pub mod Keys
+pub mod Released

@@ -8,15 +8,16 @@
 //! worker is there, some progress event is enabled. Nothing is assumed but that the events are legal and the job is one.
 #![tactic(auto)]
 
-ghost use Rattle.std.specs.Prelude.{◌≡◌, ℕ, List, true};
+ghost use Rattle.std.specs.Prelude.{◌≡◌, ◌+◌, ◌≤◌, ℕ, List, Some, true};
 ghost use Rattle.cluster_rules.specs.Sched.{Facts, IsSound};
 ghost use Rattle.cluster_msgs.specs.declared.events.Event.{Event};
 ghost use Rattle.cluster_rules.specs.Enabled.{enabled};
 ghost use Rattle.cluster_rules.specs.World.{Job, IsJob, Drained};
 ghost use Rattle.cluster_rules.specs.WorldStep.{world_step};
-ghost use Rattle.cluster_rules.specs.Runs.{legal, reached, OneAttempt, OnlyKnown, Agrees, IsLively, Safe};
+ghost use Rattle.cluster_rules.specs.Runs.{legal, reached, killed, OneAttempt, OnlyKnown, Agrees, IsLively, Safe, WasKilled};
 ghost use Rattle.safety_laws.specs.Attempts.{AttemptsEnd};
 ghost use Rattle.safety_laws.specs.Keys.{AreLetGo};
+ghost use Rattle.safety_laws.specs.Released.{NoneReleases, leaves};
 ghost use Rattle.safety_laws.specs.Lively.{IsAnswered, IsRefreshing, AreNamed, HaveThreads, AreServed};
 
 /// A key gets another attempt only once the earlier one has ended, by the same event at the latest; and an attempt that
@@ -38,8 +39,8 @@ pub fn only_known_keys_have_facts()
     ensures { (j : Job) → IsJob j → (es : List Event) → legal j es → OnlyKnown (reached j es).sched }
 {}
 
-/// A key outside the cone of every wanted key is forgotten, and the scheduler keeps no holder, assignment, steal or error of
-/// it. A key inside such a cone that isn't needed is released or erred, and not held.
+/// A key outside the cone of every wanted key is forgotten, and the scheduler keeps no holder, assignment, steal, error or
+/// loss of it. A key inside such a cone that isn't needed is released or erred, and not held.
 pub fn unneeded_keys_are_let_go()
     ensures { (j : Job) → IsJob j → (es : List Event) → legal j es → AreLetGo (reached j es).sched }
 {}
@@ -71,4 +72,14 @@ pub fn what_is_asked_is_under_way()
     ensures named { (j : Job) → IsJob j → (es : List Event) → legal j es → AreNamed (reached j es) }
     ensures threads { (j : Job) → IsJob j → (es : List Event) → legal j es → HaveThreads (reached j es) }
     ensures served { (j : Job) → IsJob j → (es : List Event) → legal j es → AreServed (reached j es) }
+{}
+
+/// Where no client lets a key go, a key that was killed at some place stays killed.
+pub fn killed_keys_stay_so()
+    ensures { (j : Job) (es : List Event) → NoneReleases es → (k : ℕ) → WasKilled j es k → killed j es k ≡ true }
+{}
+
+/// A key that is killed lost its worker more often than is allowed, each time by an event that takes that a worker leaves.
+pub fn killed_keys_lost_workers()
+    ensures { (j : Job) (es : List Event) (k a : ℕ) → j.setting.allowed ≡ Some a → killed j es k ≡ true → a + 1 ≤ leaves es }
 {}

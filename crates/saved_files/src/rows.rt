@@ -1,4 +1,4 @@
-// Writes blocks that stand side by side in a file's array, row by row.
+//! Writes blocks that stand side by side in a file's array, row by row.
 ghost use Rattle.std.specs.Prelude.{◌≡◌, ◌≤◌, ◌<◌, ◌+◌, ◌*◌, ◌/◌, ◌^◌, ◌++◌, ℕ, false, length, map, take, drop, IfOk, OnOk, OnErr, IsTrue};
 ghost use Rattle.std.specs.List.{flat_map};
 ghost use Rattle.io_edge.specs.Cause.{HasOpenCause};

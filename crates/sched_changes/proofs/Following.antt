@@ -12,11 +12,11 @@ use Rattle.key_sets.specs.Sets.{has}
 use Rattle.task_table.specs.Tasks.{Tasks, facts, SameAt, IsTouched}
 use Rattle.task_table.specs.Changes.{with_change}
 use Rattle.task_table.specs.declared.change.Change.{Change}
-use Rattle.task_table.specs.declared.change.Change.TheVariants.{Want, Unwant, Hold, Lose, Assign, Unassign, Steal, Unsteal, Fail, Forgive, Connect, Disconnect, Send, Fence, Finish}
+use Rattle.task_table.specs.declared.change.Change.TheVariants.{Want, Unwant, Hold, Lose, Assign, Unassign, Steal, Unsteal, Fail, Count, Forgive, Connect, Disconnect, Send, Fence, Finish}
 use Rattle.sched_changes.specs.Follows.{Follows, AreTouched}
 
 same_here : (f : Facts) (k : ℕ) → SameAt f f k
-same_here f k = record { known = refl; erred = refl; need = refl; held = refl; ready = refl; fed = refl; waiters = refl; bad = refl; on = refl; has = λ w. refl; want = λ c. refl }
+same_here f k = record { known = refl; erred = refl; need = refl; held = refl; ready = refl; fed = refl; waiters = refl; bad = refl; losses = refl; on = refl; has = λ w. refl; want = λ c. refl }
 
 pub same_then : (f g h : Facts) (k : ℕ) → SameAt f g k → SameAt g h k → SameAt f h k
 same_then f g h k a b = record {
@@ -28,6 +28,7 @@ same_then f g h k a b = record {
   fed = b.fed ∙ a.fed;
   waiters = b.waiters ∙ a.waiters;
   bad = b.bad ∙ a.bad;
+  losses = b.losses ∙ a.losses;
   on = b.on ∙ a.on;
   has = λ w. b.has w ∙ a.has w;
   want = λ c. b.want c ∙ a.want c;
@@ -62,6 +63,7 @@ setting_changed f (Unassign k) = refl
 setting_changed f (Steal k t r) = refl
 setting_changed f (Unsteal k) = refl
 setting_changed f (Fail k) = refl
+setting_changed f (Count k) = refl
 setting_changed f (Forgive k) = refl
 setting_changed f (Connect t) = refl
 setting_changed f (Disconnect w) = refl

@@ -2,7 +2,7 @@
 use Rattle.std.specs.Prelude.{ℕ, Option, None}
 use Rattle.cluster_msgs.specs.declared.cores.Steal.{Steal}
 use Rattle.cluster_msgs.specs.declared.cores.SchedEvent.{SchedEvent}
-use Rattle.cluster_msgs.specs.declared.cores.SchedEvent.TheVariants.{Join, Leave, FromWorker, FromClient, Balance, Evict}
+use Rattle.cluster_msgs.specs.declared.cores.SchedEvent.TheVariants.{Join, Leave, FromWorker, FromClient, Balance, Evict, Replicate}
 use Rattle.cluster_rules.specs.Sched.{Facts}
 use Rattle.cluster_rules.specs.Policies.{next_steal, next_drop}
 
@@ -14,6 +14,7 @@ steal_for f (FromWorker w up) = None
 steal_for f (FromClient c msg) = None
 steal_for f Balance = next_steal f
 steal_for f Evict = None
+steal_for f (Replicate k w) = None
 
 -- what is dropped by the event
 abbrev pub drop_for : Facts → SchedEvent → Option (ℕ × ℕ)
@@ -23,3 +24,4 @@ drop_for f (FromWorker w up) = None
 drop_for f (FromClient c msg) = None
 drop_for f Balance = None
 drop_for f Evict = next_drop f
+drop_for f (Replicate k w) = None

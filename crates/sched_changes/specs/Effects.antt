@@ -4,7 +4,7 @@ use Rattle.std.specs.List.{cons_option}
 use Rattle.cluster_msgs.specs.declared.messages.FromClient.{FromClient as ClientMessage}
 use Rattle.cluster_msgs.specs.declared.messages.FromClient.TheVariants.{Want, Release, Missing}
 use Rattle.cluster_msgs.specs.declared.cores.SchedEvent.{SchedEvent}
-use Rattle.cluster_msgs.specs.declared.cores.SchedEvent.TheVariants.{Join, Leave, FromWorker, FromClient, Balance, Evict}
+use Rattle.cluster_msgs.specs.declared.cores.SchedEvent.TheVariants.{Join, Leave, FromWorker, FromClient, Balance, Evict, Replicate}
 use Rattle.cluster_msgs.specs.declared.messages.Down.{Down}
 use Rattle.cluster_rules.specs.Functions.{put}
 use Rattle.cluster_rules.specs.Derived.{is_in}
@@ -12,7 +12,7 @@ use Rattle.cluster_rules.specs.Sched.{Facts, keys}
 use Rattle.cluster_rules.specs.SchedTable.{Changed, nothing_asked, ask_message}
 use Rattle.sched_changes.specs.Pairs.{has_pair, so_far}
 use Rattle.sched_changes.specs.declared.answer.Answer.{Answer}
-use Rattle.sched_changes.specs.declared.answer.Answer.TheVariants.{Nothing, Refresh, AskBack, Remove}
+use Rattle.sched_changes.specs.declared.answer.Answer.TheVariants.{Nothing, Refresh, AskBack, Remove, Acquire}
 use Rattle.sched_changes.specs.Answers.{answer_of}
 use Rattle.sched_changes.specs.declared.rows.Effect.{Effect}
 
@@ -22,6 +22,7 @@ answer_by f Nothing g w = answer_of Nothing g w
 answer_by f (Refresh v k) g w = answer_of (Refresh v k) g w
 answer_by f (AskBack k) g w = ask_message k (f.on k) w
 answer_by f (Remove v k) g w = answer_of (Remove v k) g w
+answer_by f (Acquire v k) g w = answer_of (Acquire v k) g w
 
 -- with what a worker is answered
 abbrev pub answering : Facts → Facts → List (ℕ × ℕ) → Answer → Changed
@@ -41,6 +42,7 @@ asked_in (FromWorker w up) k = nothing_asked k
 asked_in (FromClient c msg) k = asked_by msg k
 asked_in Balance k = nothing_asked k
 asked_in Evict k = nothing_asked k
+asked_in (Replicate q w) k = nothing_asked k
 
 -- the same keys, in a list
 abbrev pub wanted_list : ClientMessage → List ℕ
@@ -55,6 +57,7 @@ asked_list (FromWorker w up) = []
 asked_list (FromClient c msg) = wanted_list msg
 asked_list Balance = []
 asked_list Evict = []
+asked_list (Replicate q w) = []
 
 -- the whole of an event's own change, from f to g
 abbrev pub changed_by : Facts → Facts → List (ℕ × ℕ) → Effect → (ℕ → Bool) → Changed
@@ -72,3 +75,4 @@ IsAnswer f g Nothing = Unit {0}
 IsAnswer f g (Refresh w k) = Unit {0}
 IsAnswer f g (AskBack k) = IsMarked f g k
 IsAnswer f g (Remove w k) = k < keys f
+IsAnswer f g (Acquire w k) = Unit {0}

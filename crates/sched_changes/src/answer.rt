@@ -11,4 +11,6 @@ pub enum Answer {
     AskBack { key: u32 },
     /// The worker is told to remove its copy of the key.
     Remove { worker: u32, key: u32 },
+    /// The worker is told to get a copy of the key, and from whom.
+    Acquire { worker: u32, key: u32 },
 }

@@ -41,3 +41,18 @@ pub fn counter_of(table: &TaskTable) -> u64
 {
     table.table().counter()
 }
+
+/// How often the key's worker left while the key was assigned to it.
+pub fn losses_of(table: &TaskTable, key: u32) -> u32
+    requires { key < keys (facts table.now) }
+    ensures { result ≡ (facts table.now).losses key }
+{
+    table.table().losses(key)
+}
+
+/// How often a key's worker may leave while the key is assigned to it, where that is bounded.
+pub fn allowed_of(table: &TaskTable) -> Option<u32>
+    ensures { result ≡ (facts table.now).setting.allowed }
+{
+    table.table().allowed()
+}

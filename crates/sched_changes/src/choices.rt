@@ -18,6 +18,7 @@ pub fn steal_for(table: &TaskTable, event: &SchedEvent) -> Option<Steal>
         SchedEvent::FromWorker { .. } => None,
         SchedEvent::FromClient { .. } => None,
         SchedEvent::Evict => None,
+        SchedEvent::Replicate { .. } => None,
     }
 }
 
@@ -33,5 +34,6 @@ pub fn drop_for(table: &TaskTable, event: &SchedEvent) -> Option<(u32, u32)>
         SchedEvent::FromWorker { .. } => None,
         SchedEvent::FromClient { .. } => None,
         SchedEvent::Balance => None,
+        SchedEvent::Replicate { .. } => None,
     }
 }

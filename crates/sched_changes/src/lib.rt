@@ -23,6 +23,7 @@ mod taking;
 pub use answer::Answer;
 pub use changes::{News, Pairs};
 pub use choices::{drop_for, steal_for};
+pub use leaving::is_above;
 pub use making::make;
 pub use rows::{Effect, apply};
 pub use taking::takes;

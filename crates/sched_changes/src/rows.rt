@@ -1,5 +1,5 @@
 //! The rows of the scheduler's table: what each event changes, frees, answers and leaves to be told.
-ghost use Rattle.std.specs.Prelude.{◌≡◌, ◌+◌, ◌<◌, ◌≤◌, ◌^◌, nat_lt, true, false, None, Some, IfOk, [], length};
+ghost use Rattle.std.specs.Prelude.{◌≡◌, ℕ, ◌+◌, ◌<◌, ◌≤◌, ◌^◌, nat_lt, true, false, None, Some, IfOk, [], length};
 ghost use Rattle.std.specs.List.{list_all};
 ghost use Rattle.cluster_msgs.specs.declared.cores.SchedEvent.TheVariants.{Join};
 ghost use Rattle.cluster_rules.specs.Sched.{keys, connected, workers};
@@ -216,6 +216,7 @@ pub fn apply(
     requires drop { drop ≡ drop_for (facts table.old) event.now }
     requires room { (facts table.old).counter + keys (facts table.old) < 2 ^ 62 }
     requires finishes { (facts table.old).finishes < 2 ^ 62 }
+    requires losses { (k : ℕ) → (facts table.old).losses k < 2 ^ 31 }
     requires freed { freed.old ≡ [] }
     ensures is_answer { IfOk result (λ x. IsAnswer (facts table.old) (facts table.new) x.answer) }
     ensures change { IfOk result (λ x. changed_by (facts table.old) (facts table.new) freed.new x (asked_in event.now) ≡ change (facts table.old) event.now) }
@@ -235,5 +236,9 @@ pub fn apply(
         SchedEvent::FromClient { c, msg } => hear_client(table, freed, *c, msg),
         SchedEvent::Balance => Ok(balance(table, steal)),
         SchedEvent::Evict => Ok(evict(table, drop)),
+        SchedEvent::Replicate { key, w } => Ok(answer_only(Answer::Acquire {
+            worker: *w,
+            key: *key,
+        })),
     }
 }

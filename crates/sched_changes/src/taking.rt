@@ -1,8 +1,8 @@
 //! Which events are taken. All others are refused.
-ghost use Rattle.std.specs.Prelude.{◌≡◌, ◌<◌, ◌&&◌, nat_lt, nat_le, true, is_some, length};
+ghost use Rattle.std.specs.Prelude.{◌≡◌, ◌<◌, ◌&&◌, nat_lt, nat_le, true, not, is_some, length};
 ghost use Rattle.std.specs.List.{list_all};
 ghost use Rattle.cluster_msgs.specs.declared.cores.SchedEvent.{SchedEvent};
-ghost use Rattle.cluster_rules.specs.Sched.{keys, workers, connected};
+ghost use Rattle.cluster_rules.specs.Sched.{keys, workers, connected, held};
 ghost use Rattle.cluster_rules.specs.SchedTable.{up_keys, client_keys, sched_takes};
 ghost use Rattle.task_table.specs.Tasks.{facts};
 ghost use Rattle.sched_changes.specs.Choices.{steal_for, drop_for};
@@ -70,6 +70,20 @@ fn is_client(client: u32, clients: u32) -> bool
     (1 <= client) & (client <= clients)
 }
 
+/// Whether some worker holds the key. Where there is no such key none does.
+fn is_held(table: &TaskTable, key: u32) -> bool
+    ensures { result ≡ held (facts table.now) key }
+{
+    table.table().is_held(key)
+}
+
+/// Whether a connected worker may be told to get a copy of a key that is there and held, and that it doesn't hold.
+fn may_copy(connected: bool, there: bool, held: bool, holds: bool) -> bool
+    ensures { result ≡ ((connected && there) && (held && not holds)) }
+{
+    (connected & there) & (held & !holds)
+}
+
 /// How many workers are connected.
 fn worker_count(table: &TaskTable) -> u32
     ensures { result ≡ length (workers (facts table.now)) }
@@ -107,5 +121,11 @@ pub fn takes(
         }
         SchedEvent::Balance => steal.is_some(),
         SchedEvent::Evict => drop.is_some(),
+        SchedEvent::Replicate { key, w } => may_copy(
+            table.connected(*w),
+            is_there(table.keys(), *key),
+            is_held(table, *key),
+            table.table().holds(*w, *key),
+        ),
     }
 }

@@ -9,7 +9,7 @@ use Rattle.cluster_rules.specs.Functions.{put, put_pair}
 use Rattle.cluster_rules.specs.Sched.{Facts, keys, holds, is_on, is_for, connected, tasks, occupancy, bytes_held, holder_count}
 use Rattle.sched_facts.specs.Kept.{IsSummed, IsKeeping, want_count}
 use Rattle.sched_facts.proofs.SumLemmas.{tasks-placed, occupancy-placed, bytes-copied, holders-copied, wanters-put}
-use Rattle.sched_facts.proofs.SoundTable.{sound-counted, sound-sent, sound-want, sound-bad, sound-copied, sound-placed, sound-marked, fresh-counted, fresh-copied, fresh-placed}
+use Rattle.sched_facts.proofs.SoundTable.{sound-counted, sound-sent, sound-want, sound-bad, sound-losses, sound-copied, sound-placed, sound-marked, fresh-counted, fresh-copied, fresh-placed}
 
 moved : (P : Facts → ℕ → Type 0) (f g : Facts) (m n : ℕ) → g ≡ f → n ≡ m → P f m → P g n
 moved P f g m n e d p = subst (λ h. P h n) (sym e) (subst (λ k. P f k) (sym d) p)
@@ -37,6 +37,23 @@ keep-bad f g m n t w b h c k to e d l s = moved (λ (x : Facts) (r : ℕ). IsKee
   sound = sound-bad f k to l s.sound;
   fresh = record { copies = s.fresh.copies; attempts = s.fresh.attempts };
   sums = summed-rest f f.steal (put f.bad k to) f.threads f.sent f.fence f.counter f.finishes t w b h c s.sums;
+  last = s.last;
+  task_rows = s.task_rows;
+  work_rows = s.work_rows;
+  byte_rows = s.byte_rows;
+  holder_rows = s.holder_rows;
+  want_rows = s.want_rows;
+})
+
+summed-losses : (f : Facts) (bad : ℕ → Bool) (losses : ℕ → ℕ) (t w b h c : List ℕ) → IsSummed f t w b h c → IsSummed (record f { bad = bad; losses = losses }) t w b h c
+unfolding tasks occupancy bytes_held holder_count want_count
+summed-losses f bad losses t w b h c s = record { tasks = s.tasks; work = s.work; bytes = s.bytes; holders = s.holders; wanters = s.wanters }
+
+pub keep-losses : (f g : Facts) (m n : ℕ) (t w b h c : List ℕ) (bad : ℕ → Bool) (k to : ℕ) → g ≡ record f { bad = bad; losses = put f.losses k to } → n ≡ m → k < keys f → ((j : ℕ) → keys f ≤ j → bad j ≡ false) → IsKeeping f m t w b h c → IsKeeping g n t w b h c
+keep-losses f g m n t w b h c bad k to e d l low s = moved (λ (x : Facts) (r : ℕ). IsKeeping x r t w b h c) (record f { bad = bad; losses = put f.losses k to }) g m n e d (record {
+  sound = sound-losses f bad k to l low s.sound;
+  fresh = record { copies = s.fresh.copies; attempts = s.fresh.attempts };
+  sums = summed-losses f bad (put f.losses k to) t w b h c s.sums;
   last = s.last;
   task_rows = s.task_rows;
   work_rows = s.work_rows;

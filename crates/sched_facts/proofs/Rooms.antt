@@ -1,10 +1,11 @@
 -- What the sums need before they change, and what they stand for.
-use Rattle.std.proofs.Common.{◌≡◌, ℕ, zero, ◌+◌, ◌-◌, ◌*◌, ◌<◌, ◌≤◌, ◌^◌, Bool, true, false, cond, ◌&&◌, List, [], ◌∷◌, length, Option, Some, None, refl, sym, ap, ◌∙◌, subst, arith, ltb, length-append}
+use Rattle.std.proofs.Common.{◌≡◌, ℕ, zero, ◌+◌, ◌-◌, ◌*◌, ◌<◌, ◌≤◌, ◌^◌, Bool, true, false, cond, ◌&&◌, ◌||◌, List, [], ◌∷◌, length, Option, Some, None, refl, sym, ap, ◌∙◌, subst, arith, ltb, length-append}
 use Rattle.std.proofs.lemmas.Bool.{eqb-true, le-leb, lt-ltb}
 use Rattle.std.proofs.Math.Dec.{eqb}
 use Rattle.std.specs.Prelude.{nat_lt, nat_le}
 use Rattle.std.specs.List.{filter, range_with_len}
 use Rattle.std.proofs.lemmas.List.FromFn.{length-range_with_len}
+use Rattle.std.proofs.Math.Bool.{or-false}
 use Rattle.std.proofs.Math.Nat.{add-zero}
 use Rattle.std.proofs.lemmas.Option.{none-some}
 use Rattle.small_facts.proofs.Numbers.{eqb_self}
@@ -15,7 +16,7 @@ use Rattle.fact_rows.specs.Rows.{read}
 use Rattle.cluster_msgs.specs.Shape.{IsShape, key_count, work_of, nbytes_of}
 use Rattle.cluster_msgs.specs.declared.cores.SchedEvent.TheVariants.{Join, Leave}
 use Rattle.cluster_rules.specs.Functions.{put, put_pair, from_one, total, count}
-use Rattle.cluster_rules.specs.Sched.{Setting, Facts, IsSound, sched_opening, keys, holds, held, wanted, is_on, is_for, connected, workers, tasks, occupancy, bytes_held, holder_count}
+use Rattle.cluster_rules.specs.Sched.{Setting, Facts, IsSound, sched_opening, keys, holds, held, wanted, is_above, is_on, is_for, connected, workers, tasks, occupancy, bytes_held, holder_count}
 use Rattle.cluster_rules.specs.SchedTable.{joined, left, sched_takes, change}
 use Rattle.cluster_rules.proofs.TotalLemmas.{tasks_fit, occupancy_fits, bytes_held_fit, total-bound, total-push}
 use Rattle.cluster_rules.proofs.SoundStep.{sound_changed, sound_opening}
@@ -200,8 +201,11 @@ keep-joined f g m n t w b h c threads e d x y u v r s = subst (λ (z : Facts). I
 
 left_nothing : (f : Facts) (w : ℕ) → ((k : ℕ) → holds f w k ≡ false) → ((k : ℕ) → is_on f w k ≡ false) → left f w ≡ record f { threads = put f.threads w None }
 unfolding left
-left_nothing f w h o = λ i. record f { threads = put f.threads w None; has = λ v k. has_at v k (eqb v w) refl i; on = λ k. on_at k i; steal = λ k. steal_at k i }
+left_nothing f w h o = λ i. record f { threads = put f.threads w None; has = λ v k. has_at v k (eqb v w) refl i; on = λ k. on_at k i; steal = λ k. steal_at k i; bad = λ k. bad_at k i; losses = λ k. ap (λ b. cond b (f.losses k + 1) (f.losses k)) (o k) i }
   where
+    bad_at : (k : ℕ) → (f.bad k || (is_on f w k && is_above f.setting.allowed (f.losses k + 1))) ≡ f.bad k
+    bad_at k = ap (λ b. f.bad k || (b && is_above f.setting.allowed (f.losses k + 1))) (o k) ∙ or-false (f.bad k)
+
     has_at : (v k : ℕ) (b : Bool) → eqb v w ≡ b → cond b None (f.has v k) ≡ f.has v k
     has_at v k true e = none_is_it (f.has v k) (ap (λ u. holds f u k) (eqb-true v w e) ∙ h k)
     has_at v k false e = refl

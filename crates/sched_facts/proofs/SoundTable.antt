@@ -15,26 +15,29 @@ pair_past f w k n v j x d l m e = ap (λ b. cond (eqb v w && b) x (f v j)) (uneq
 
 -- other numbers
 pub sound-counted : (f : Facts) (n m : ℕ) → IsSound f → IsSound (record f { counter = n; finishes = m })
-sound-counted f n m s = sound_bounded f (record f { counter = n; finishes = m }) s (record { setting = refl; threads = refl; last_worker = refl; want = s.want; has = s.has; bad = s.bad; on = s.on; steal = s.steal; holders = s.holders; places = s.places })
+sound-counted f n m s = sound_bounded f (record f { counter = n; finishes = m }) s (record { setting = refl; threads = refl; last_worker = refl; want = s.want; has = s.has; bad = s.bad; losses = s.losses; on = s.on; steal = s.steal; holders = s.holders; places = s.places })
 
 pub sound-sent : (f : Facts) (sent : ℕ → ℕ) (fence : ℕ → ℕ → ℕ) → IsSound f → IsSound (record f { sent = sent; fence = fence })
-sound-sent f sent fence s = sound_bounded f (record f { sent = sent; fence = fence }) s (record { setting = refl; threads = refl; last_worker = refl; want = s.want; has = s.has; bad = s.bad; on = s.on; steal = s.steal; holders = s.holders; places = s.places })
+sound-sent f sent fence s = sound_bounded f (record f { sent = sent; fence = fence }) s (record { setting = refl; threads = refl; last_worker = refl; want = s.want; has = s.has; bad = s.bad; losses = s.losses; on = s.on; steal = s.steal; holders = s.holders; places = s.places })
 
 pub sound-want : (f : Facts) (c k : ℕ) (to : Bool) → k < keys f → IsSound f → IsSound (record f { want = put_pair f.want c k to })
-sound-want f c k to l s = sound_bounded f (record f { want = put_pair f.want c k to }) s (record { setting = refl; threads = refl; last_worker = refl; want = λ d j m. pair_past f.want c k (keys f) d j to false l m (s.want d j m); has = s.has; bad = s.bad; on = s.on; steal = s.steal; holders = s.holders; places = s.places })
+sound-want f c k to l s = sound_bounded f (record f { want = put_pair f.want c k to }) s (record { setting = refl; threads = refl; last_worker = refl; want = λ d j m. pair_past f.want c k (keys f) d j to false l m (s.want d j m); has = s.has; bad = s.bad; losses = s.losses; on = s.on; steal = s.steal; holders = s.holders; places = s.places })
 
 pub sound-bad : (f : Facts) (k : ℕ) (to : Bool) → k < keys f → IsSound f → IsSound (record f { bad = put f.bad k to })
-sound-bad f k to l s = sound_bounded f (record f { bad = put f.bad k to }) s (record { setting = refl; threads = refl; last_worker = refl; want = s.want; has = s.has; bad = λ j m. ap (λ b. cond b to (f.bad j)) (unequal_past j k (keys f) l m) ∙ s.bad j m; on = s.on; steal = s.steal; holders = s.holders; places = s.places })
+sound-bad f k to l s = sound_bounded f (record f { bad = put f.bad k to }) s (record { setting = refl; threads = refl; last_worker = refl; want = s.want; has = s.has; bad = λ j m. ap (λ b. cond b to (f.bad j)) (unequal_past j k (keys f) l m) ∙ s.bad j m; losses = s.losses; on = s.on; steal = s.steal; holders = s.holders; places = s.places })
+
+pub sound-losses : (f : Facts) (bad : ℕ → Bool) (k n : ℕ) → k < keys f → ((j : ℕ) → keys f ≤ j → bad j ≡ false) → IsSound f → IsSound (record f { bad = bad; losses = put f.losses k n })
+sound-losses f bad k n l b s = sound_bounded f (record f { bad = bad; losses = put f.losses k n }) s (record { setting = refl; threads = refl; last_worker = refl; want = s.want; has = s.has; bad = b; losses = λ j m. ap (λ t. cond t n (f.losses j)) (unequal_past j k (keys f) l m) ∙ s.losses j m; on = s.on; steal = s.steal; holders = s.holders; places = s.places })
 
 pub sound-copied : (f : Facts) (w k : ℕ) (to : Option ℕ) → k < keys f → connected f w ≡ true → IsSound f → IsSound (record f { has = put_pair f.has w k to })
-sound-copied f w k to l c s = sound_bounded f (record f { has = put_pair f.has w k to }) s (record { setting = refl; threads = refl; last_worker = refl; want = s.want; has = λ v j m. pair_past f.has w k (keys f) v j to None l m (s.has v j m); bad = s.bad; on = s.on; steal = s.steal; holders = λ v j h. pick v j (eqb v w && eqb j k) refl h; places = s.places })
+sound-copied f w k to l c s = sound_bounded f (record f { has = put_pair f.has w k to }) s (record { setting = refl; threads = refl; last_worker = refl; want = s.want; has = λ v j m. pair_past f.has w k (keys f) v j to None l m (s.has v j m); bad = s.bad; losses = s.losses; on = s.on; steal = s.steal; holders = λ v j h. pick v j (eqb v w && eqb j k) refl h; places = s.places })
   where
     pick : (v j : ℕ) (b : Bool) → (eqb v w && eqb j k) ≡ b → is_some (cond b to (f.has v j)) ≡ true → connected f v ≡ true
     pick v j true e h = subst (λ u. connected f u ≡ true) (sym (eqb-true v w (and_first (eqb v w) (eqb j k) e))) c
     pick v j false e h = s.holders v j h
 
 pub sound-placed : (f : Facts) (k : ℕ) (to : Option (ℕ × ℕ)) → k < keys f → ((w a : ℕ) → to ≡ Some (w, a) → (connected f w ≡ true) × (a < f.counter)) → IsSound f → IsSound (record f { on = put f.on k to; steal = put f.steal k None })
-sound-placed f k to l placed s = sound_bounded f (record f { on = put f.on k to; steal = put f.steal k None }) s (record { setting = refl; threads = refl; last_worker = refl; want = s.want; has = s.has; bad = s.bad; on = λ j m. put_past f.on k (keys f) j to l m (s.on j m); steal = λ j h. steal_at j (eqb j k) h; holders = s.holders; places = λ v j h. place_at v j (eqb j k) h })
+sound-placed f k to l placed s = sound_bounded f (record f { on = put f.on k to; steal = put f.steal k None }) s (record { setting = refl; threads = refl; last_worker = refl; want = s.want; has = s.has; bad = s.bad; losses = s.losses; on = λ j m. put_past f.on k (keys f) j to l m (s.on j m); steal = λ j h. steal_at j (eqb j k) h; holders = s.holders; places = λ v j h. place_at v j (eqb j k) h })
   where
     steal_at : (j : ℕ) (b : Bool) → cond b to (f.on j) ≡ None → cond b None (f.steal j) ≡ None
     steal_at j true h = refl

@@ -1,8 +1,8 @@
 -- What the stored facts keep, beside that no fact names what is not there.
-use Rattle.std.specs.Prelude.{◌≡◌, ℕ, ◌<◌, ◌≤◌, ◌==◌, ◌&&◌, nat_lt, List, Some, None, length, cond}
+use Rattle.std.specs.Prelude.{◌≡◌, ℕ, ◌+◌, ◌<◌, ◌≤◌, ◌==◌, ◌&&◌, ◌||◌, nat_lt, List, Some, None, length, cond}
 use Rattle.fact_rows.specs.Rows.{read}
 use Rattle.cluster_rules.specs.Functions.{put, put_pair, from_one, count}
-use Rattle.cluster_rules.specs.Sched.{Facts, IsSound, is_on, keys, tasks, occupancy, bytes_held, holder_count}
+use Rattle.cluster_rules.specs.Sched.{Facts, IsSound, is_above, is_on, keys, tasks, occupancy, bytes_held, holder_count}
 
 -- each copy and each attempt is below the next
 pub record IsFresh (f : Facts) : Type 0 where
@@ -21,9 +21,18 @@ pub record IsSummed (f : Facts) (task_row work_row byte_row holder_row want_row 
   pub holders : (k : ℕ) → read holder_row 0 k ≡ holder_count f k
   pub wanters : (k : ℕ) → read want_row 0 k ≡ want_count f k
 
+-- the key has lost the worker that it was on, once more than before
+abbrev pub lost_place : Facts → ℕ → Facts
+lost_place f k = record f {
+  on = put f.on k None;
+  steal = put f.steal k None;
+  bad = put f.bad k (f.bad k || is_above f.setting.allowed (f.losses k + 1));
+  losses = put f.losses k (f.losses k + 1);
+}
+
 -- a key that is on a worker is no longer
 abbrev pub taken_back : Facts → ℕ → ℕ → Facts
-taken_back f w k = cond (is_on f w k) (record f { on = put f.on k None; steal = put f.steal k None }) f
+taken_back f w k = cond (is_on f w k) (lost_place f k) f
 
 -- what a worker that leaves holds or was given of one key goes
 unfoldable pub left_key : ℕ → Facts → ℕ → Facts
@@ -35,6 +44,8 @@ left_below w f n = record f {
   has = λ v k. cond (v == w && nat_lt k n) None (f.has v k);
   on = λ k. cond (nat_lt k n && is_on f w k) None (f.on k);
   steal = λ k. cond (nat_lt k n && is_on f w k) None (f.steal k);
+  bad = λ k. f.bad k || ((nat_lt k n && is_on f w k) && is_above f.setting.allowed (f.losses k + 1));
+  losses = λ k. cond (nat_lt k n && is_on f w k) (f.losses k + 1) (f.losses k);
 }
 
 -- all that is kept of the facts, with room for as many workers, and rows of tasks, work and bytes by worker and of holders and wanters by key

@@ -12,6 +12,7 @@ pub record Stored : Type 0 where
   pub on : List (Option (ℕ × ℕ))
   pub steal : List (Option (ℕ × Bool))
   pub bad : List Bool
+  pub losses : List ℕ
   pub threads : List (Option ℕ)
   pub sent : List ℕ
   pub fence : ℕ × List (List ℕ)
@@ -29,6 +30,7 @@ facts_of s = record {
   on = read s.on None;
   steal = read s.steal None;
   bad = read s.bad false;
+  losses = read s.losses 0;
   threads = read s.threads None;
   sent = read s.sent 0;
   fence = cell s.fence 0;
@@ -46,6 +48,7 @@ pub record IsStored (s : Stored) : Type 0 where
   pub places : length s.on ≡ key_count s.setting.shape
   pub steals : length s.steal ≡ key_count s.setting.shape
   pub faults : length s.bad ≡ key_count s.setting.shape
+  pub counts : length s.losses ≡ key_count s.setting.shape
   pub fences : width s.fence ≡ key_count s.setting.shape
   pub last : s.last_worker ≤ s.room
   pub threads : s.room < length s.threads

@@ -21,11 +21,13 @@ pub struct FactStore {
     shape: GraphShape,
     clients: u32,
     saturation: u32,
+    allowed: Option<u32>,
     want: Grid<bool>,
     has: Sheets<Option<u64>>,
     on: Row<Option<(u32, u64)>>,
     steal: Row<Option<(u32, bool)>>,
     bad: Row<bool>,
+    losses: Row<u32>,
     threads: Row<Option<u32>>,
     sent: Row<u64>,
     fence: Sheets<u64>,
@@ -54,9 +56,10 @@ impl FactStore {
         shape: GraphShape,
         clients: u32,
         saturation: u32,
+        allowed: Option<u32>,
     ) -> Result<FactStore, AllocError>
         requires { clients ≤ 16 }
-        ensures facts { IfOk result (λ store. facts_of store ≡ sched_opening (record { shape = shape; clients = clients; saturation = saturation; allowed = None })) }
+        ensures facts { IfOk result (λ store. facts_of store ≡ sched_opening (record { shape = shape; clients = clients; saturation = saturation; allowed = allowed })) }
         ensures room { IfOk result (λ store. store.room ≡ 0) }
     {
         let wide = shape.keys();
@@ -69,11 +72,13 @@ impl FactStore {
             shape,
             clients,
             saturation,
+            allowed,
             want: grids.want,
             has: grids.has,
             on: rows.on,
             steal: rows.steal,
             bad: rows.bad,
+            losses: rows.losses,
             threads,
             sent,
             fence: grids.fence,
@@ -129,6 +134,13 @@ impl FactStore {
         ensures { result ≡ (facts_of self.now).setting.saturation }
     {
         self.saturation
+    }
+
+    /// How often a key's worker may leave while the key is assigned to it, where that is bounded.
+    pub fn allowed(&self) -> Option<u32>
+        ensures { result ≡ (facts_of self.now).setting.allowed }
+    {
+        self.allowed
     }
 
     pub fn last_worker(&self) -> u32
@@ -229,6 +241,22 @@ impl FactStore {
         ensures room { self.new.room ≡ self.old.room }
     {
         self.bad.set(key, to);
+    }
+
+    /// How often the key's worker left while the key was assigned to it.
+    pub fn losses(&self, key: u32) -> u32
+        requires { key < keys (facts_of self.now) }
+        ensures { result ≡ (facts_of self.now).losses key }
+    {
+        self.losses.get(key)
+    }
+
+    pub fn set_losses(&mut self, key: u32, to: u32)
+        requires { key < keys (facts_of self.old) }
+        ensures facts { facts_of self.new ≡ record (facts_of self.old) { losses = put (facts_of self.old).losses key to } }
+        ensures room { self.new.room ≡ self.old.room }
+    {
+        self.losses.set(key, to);
     }
 
     /// The worker's threads, where it is connected.
@@ -333,12 +361,13 @@ impl FactStore {
     }
 }
 
-/// The rows by key of a store that begins: no key has a place, none is to be stolen, and none is bad.
+/// The rows by key of a store that begins: no key has a place, none is to be stolen, none is bad, and none lost a worker.
 #[derive(Drop)]
 struct KeyRows {
     on: Row<Option<(u32, u64)>>,
     steal: Row<Option<(u32, bool)>>,
     bad: Row<bool>,
+    losses: Row<u32>,
 }
 
 impl KeyRows {
@@ -346,15 +375,18 @@ impl KeyRows {
         ensures on { IfOk result (λ rows. (k : ℕ) → read rows.on None k ≡ None) }
         ensures steal { IfOk result (λ rows. (k : ℕ) → read rows.steal None k ≡ None) }
         ensures bad { IfOk result (λ rows. (k : ℕ) → read rows.bad false k ≡ false) }
+        ensures losses { IfOk result (λ rows. (k : ℕ) → read rows.losses 0 k ≡ 0) }
         ensures places { IfOk result (λ rows. length rows.on ≡ wide) }
         ensures steals { IfOk result (λ rows. length rows.steal ≡ wide) }
         ensures faults { IfOk result (λ rows. length rows.bad ≡ wide) }
+        ensures counts { IfOk result (λ rows. length rows.losses ≡ wide) }
     {
         let count = wide as usize;
         Ok(KeyRows {
             on: Row::filled(alloc, count, None)?,
             steal: Row::filled(alloc, count, None)?,
             bad: Row::filled(alloc, count, false)?,
+            losses: Row::filled(alloc, count, 0)?,
         })
     }
 }

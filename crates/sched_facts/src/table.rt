@@ -5,9 +5,9 @@
 ghost use Rattle.std.specs.Prelude.{◌≡◌, ℕ, ◌+◌, ◌<◌, ◌≤◌, ◌^◌, true, false, None, Some, IfOk, OnOk, length, is_some};
 ghost use Rattle.cluster_rules.specs.Functions.{put, put_pair};
 ghost use Rattle.cluster_rules.specs.Sched.{IsSound, sched_opening, keys, held, wanted, holds, is_on, connected, workers, tasks, occupancy, bytes_held, holder_count};
-ghost use Rattle.cluster_rules.specs.SchedTable.{joined, left};
+ghost use Rattle.cluster_rules.specs.SchedTable.{joined};
 ghost use Rattle.sched_facts.specs.Stored.{facts_of};
-ghost use Rattle.sched_facts.specs.Kept.{IsFresh, left_key, taken_back};
+ghost use Rattle.sched_facts.specs.Kept.{IsFresh};
 ghost use Rattle.cluster_rules.specs.Sched.{is_for};
 
 use crate::store::FactStore;
@@ -52,10 +52,11 @@ impl FactTable {
         shape: GraphShape,
         clients: u32,
         saturation: u32,
+        allowed: Option<u32>,
     ) -> Result<FactTable, AllocError>
         requires clients { clients ≤ 16 }
         requires saturation { (1 ≤ saturation) × (saturation ≤ 1000) }
-        ensures { IfOk result (λ table. facts_of table ≡ sched_opening (record { shape = shape; clients = clients; saturation = saturation; allowed = None })) }
+        ensures { IfOk result (λ table. facts_of table ≡ sched_opening (record { shape = shape; clients = clients; saturation = saturation; allowed = allowed })) }
     {
         let count = shape.keys() as usize;
         shape.sound();
@@ -64,7 +65,7 @@ impl FactTable {
         let tasks = Row::filled(alloc, 1, 0)?;
         let work = Row::filled(alloc, 1, 0)?;
         let bytes = Row::filled(alloc, 1, 0)?;
-        let store = FactStore::new(alloc, shape, clients, saturation)?;
+        let store = FactStore::new(alloc, shape, clients, saturation, allowed)?;
         Ok(FactTable {
             store,
             tasks,
@@ -114,6 +115,13 @@ impl FactTable {
         ensures { result ≡ (facts_of self.now).setting.saturation }
     {
         self.store.saturation()
+    }
+
+    /// How often a key's worker may leave while the key is assigned to it, where that is bounded.
+    pub fn allowed(&self) -> Option<u32>
+        ensures { result ≡ (facts_of self.now).setting.allowed }
+    {
+        self.store.allowed()
     }
 
     /// The greatest number that a worker got. They count from 1.
@@ -313,6 +321,33 @@ impl FactTable {
         self.store.set_bad(key, to);
     }
 
+    /// How often the key's worker left while the key was assigned to it.
+    pub fn losses(&self, key: u32) -> u32
+        requires { key < keys (facts_of self.now) }
+        ensures { result ≡ (facts_of self.now).losses key }
+    {
+        self.store.losses(key)
+    }
+
+    /// The key has lost its worker once more.
+    pub fn count_loss(&mut self, key: u32)
+        requires key { key < keys (facts_of self.old) }
+        requires room { (facts_of self.old).losses key < 2 ^ 31 }
+        ensures { facts_of self.new ≡ record (facts_of self.old) { losses = put (facts_of self.old).losses key ((facts_of self.old).losses key + 1) } }
+    {
+        let count = self.store.losses(key) + 1;
+        self.store.set_losses(key, count);
+    }
+
+    /// The key has no error of its own and no losses.
+    pub fn forgive(&mut self, key: u32)
+        requires { key < keys (facts_of self.old) }
+        ensures { facts_of self.new ≡ record (facts_of self.old) { bad = put (facts_of self.old).bad key false; losses = put (facts_of self.old).losses key 0 } }
+    {
+        self.store.set_bad(key, false);
+        self.store.set_losses(key, 0);
+    }
+
     /// The worker's threads, where it is connected.
     pub fn threads(&self, worker: u32) -> Option<u32>
         ensures { result ≡ (facts_of self.now).threads worker }
@@ -388,38 +423,6 @@ impl FactTable {
         let number = self.store.last_worker() + 1;
         self.store.set_threads(number, Some(threads));
         self.store.count_worker();
-    }
-
-    /// The worker, what it holds, what it was given and the steals of that go.
-    pub fn leave(&mut self, worker: u32)
-        requires { connected (facts_of self.old) worker ≡ true }
-        ensures { facts_of self.new ≡ left (facts_of self.old) worker }
-    {
-        self.sound();
-        for key in 0..self.keys() {
-            self.leave_key(worker, key);
-        }
-        self.disconnect(worker);
-    }
-
-    /// What a worker that leaves holds or was given of one key goes.
-    fn leave_key(&mut self, worker: u32, key: u32)
-        requires worker { connected (facts_of self.old) worker ≡ true }
-        requires key { key < keys (facts_of self.old) }
-        ensures { facts_of self.new ≡ left_key worker (facts_of self.old) key }
-    {
-        self.drop_copy(worker, key);
-        self.take_back(worker, key);
-    }
-
-    /// The key is on no worker and not to be stolen, where it was on this one.
-    fn take_back(&mut self, worker: u32, key: u32)
-        requires { key < keys (facts_of self.old) }
-        ensures { facts_of self.new ≡ taken_back (facts_of self.old) worker key }
-    {
-        if is_on_worker(worker, self.on(key)) {
-            self.unassign(key);
-        }
     }
 
     /// A worker that holds nothing and was given nothing is no longer connected.

@@ -4,7 +4,7 @@ use Rattle.std.specs.List.{All}
 use Rattle.std.proofs.lemmas.List.Elements.{All-from_recursion}
 use Rattle.cluster_msgs.specs.declared.messages.FromClient.TheVariants.{Want, Release, Missing}
 use Rattle.cluster_msgs.specs.declared.cores.SchedEvent.{SchedEvent}
-use Rattle.cluster_msgs.specs.declared.cores.SchedEvent.TheVariants.{Join, Leave, FromWorker, FromClient, Balance, Evict}
+use Rattle.cluster_msgs.specs.declared.cores.SchedEvent.TheVariants.{Join, Leave, FromWorker, FromClient, Balance, Evict, Replicate}
 use Rattle.cluster_rules.specs.Derived.{is_in}
 use Rattle.cluster_rules.specs.Sched.{Facts, keys}
 use Rattle.cluster_rules.specs.SchedTable.{sched_takes}
@@ -24,6 +24,7 @@ asked_there f (FromClient c (Release ks)) h = none_there (keys f)
 asked_there f (FromClient c (Missing k x n)) h = none_there (keys f)
 asked_there f Balance h = none_there (keys f)
 asked_there f Evict h = none_there (keys f)
+asked_there f (Replicate k w) h = none_there (keys f)
 
 pub asked_same : (e : SchedEvent) (k : ℕ) → is_in k (asked_list e) ≡ asked_in e k
 asked_same (Join threads) k = refl
@@ -34,3 +35,4 @@ asked_same (FromClient c (Release ks)) k = refl
 asked_same (FromClient c (Missing q x n)) k = refl
 asked_same Balance k = refl
 asked_same Evict k = refl
+asked_same (Replicate q w) k = refl

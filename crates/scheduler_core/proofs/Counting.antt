@@ -12,7 +12,7 @@ use Rattle.cluster_msgs.specs.declared.messages.FromClient.{FromClient as FromCl
 use Rattle.cluster_msgs.specs.declared.messages.FromClient.TheVariants.{Want, Release, Missing}
 use Rattle.cluster_msgs.specs.declared.cores.Steal.{Steal}
 use Rattle.cluster_msgs.specs.declared.cores.SchedEvent.{SchedEvent}
-use Rattle.cluster_msgs.specs.declared.cores.SchedEvent.TheVariants.{Join, Leave, FromWorker, FromClient, Balance, Evict}
+use Rattle.cluster_msgs.specs.declared.cores.SchedEvent.TheVariants.{Join, Leave, FromWorker, FromClient, Balance, Evict, Replicate}
 use Rattle.cluster_rules.specs.Functions.{put, put_pair}
 use Rattle.cluster_rules.specs.Derived.{below}
 use Rattle.cluster_rules.specs.Sched.{Setting, Facts, keys, connected, holds, held, is_on}
@@ -154,6 +154,7 @@ counted_change f (FromWorker w up) h = counted_up f w up (and_second (connected 
 counted_change f (FromClient c msg) h = counted_client f c msg
 counted_change f Balance h = counted_balanced f (keys f) (next_steal f)
 counted_change f Evict h = counted_evicted f (keys f) (next_drop f)
+counted_change f (Replicate k w) h = none f (keys f)
 
 place_counter : (f : Facts) (ks : List ℕ) → (place_keys f ks).counter ≤ f.counter + length ks
 place_counter f [] = le-add_right f.counter 0

@@ -15,7 +15,7 @@ use Rattle.cluster_rules.specs.SchedTable.{Changed, ask_message, change, sched_t
 use Rattle.cluster_rules.specs.SchedStep.{drop_bad, drop_has, drop_on, place_all, settle, finish_step, sched_step, down_messages}
 use Rattle.cluster_laws.specs.Settled.{IsSettled}
 use Rattle.sched_changes.specs.declared.answer.Answer.{Answer}
-use Rattle.sched_changes.specs.declared.answer.Answer.TheVariants.{Nothing, Refresh, AskBack, Remove}
+use Rattle.sched_changes.specs.declared.answer.Answer.TheVariants.{Nothing, Refresh, AskBack, Remove, Acquire}
 use Rattle.sched_changes.specs.Answers.{answer_of}
 use Rattle.scheduler_core.specs.Mail.{worker_mail, is_since}
 use Rattle.scheduler_core.specs.Posted.{posted_mail, taken_keys}
@@ -114,6 +114,7 @@ answer_at f e v (AskBack k) m w =
     let same : (settle f (change f e)).placed.on k ≡ f.on k = ap (λ (z : Facts). (place_all (let_go z)).on k) m.facts ∙ place_stays f k (put f.steal k m.steal) v m.placed in
     ap (λ (o : Option (ℕ × ℕ)). ask_message k o w) same
 answer_at f e v (Remove u k) m w = refl
+answer_at f e v (Acquire u k) m w = refl
 
 -- the setting stays
 pub setting_settled : (f : Facts) (e : SchedEvent) → sched_takes f e ≡ true → (settle f (change f e)).placed.setting ≡ f.setting
@@ -154,6 +155,7 @@ answers_key : (f g p : Facts) (a : Answer) → IsAnswer f g a → p.setting ≡ 
 answers_key f g p Nothing m e = tt
 answers_key f g p (Refresh w k) m e = tt
 answers_key f g p (AskBack k) m e = tt
+answers_key f g p (Acquire w k) m e = tt
 answers_key f g p (Remove w k) m e = subst (λ (z : Setting). k < length z.shape.deps) (sym e) m
 
 few_told : (m n l : ℕ) → m ≤ 64 → n ≤ 32768 → l ≤ m * (n + 2) → l ≤ 3 * 2 ^ 20

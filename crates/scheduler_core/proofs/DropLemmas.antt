@@ -1,5 +1,5 @@
 -- Facts that go one by one.
-use Rattle.std.proofs.Common.{◌≡◌, ℕ, zero, suc, ◌+◌, ◌<◌, ◌≤◌, Bool, true, false, not, cond, ◌&&◌, ◌||◌, Option, Some, None, is_some, refl, sym, ap, ◌∙◌, arith, ltb, leb, ⊎_elim, ◌⊎◌}
+use Rattle.std.proofs.Common.{◌≡◌, ℕ, zero, suc, ◌+◌, ◌<◌, ◌≤◌, Bool, true, false, not, cond, ◌&&◌, ◌||◌, Option, Some, None, is_some, refl, sym, ap, ◌∙◌, arith, ltb, leb, ⊎_elim, ◌⊎◌, inl, inr}
 use Rattle.std.specs.List.{list_any, range_with_len}
 use Rattle.std.proofs.lemmas.Bool.Decides.{nat_tests}
 use Rattle.std.proofs.lemmas.Bool.{false≢true, eqb-true, cases_lt, lt-ltb}
@@ -10,7 +10,7 @@ use Rattle.small_facts.proofs.Options.{none_is_it}
 use Rattle.cluster_rules.specs.Functions.{put, put_pair}
 use Rattle.cluster_rules.specs.Sched.{Facts, IsSound, keys, holds, held, is_on, is_for, known, need, ready}
 use Rattle.cluster_rules.specs.SchedStep.{drop_bad, drop_has, drop_on}
-use Rattle.scheduler_core.specs.Dropped.{bad_below, copies_up_to, has_below, on_below, held_nowhere, placed_nowhere}
+use Rattle.scheduler_core.specs.Dropped.{forgiven, bad_below, copies_up_to, has_below, on_below, held_nowhere, placed_nowhere}
 
 -- a copy that is not there goes
 pub copy_gone : (f : Facts) (w k : ℕ) → holds f w k ≡ false → f ≡ record f { has = put_pair f.has w k None }
@@ -42,11 +42,14 @@ gone_more false false p q d x h = refl
 
 pub bad_none : (passes : ℕ → Bool) (f : Facts) → f ≡ bad_below passes f 0
 unfolding bad_below
-bad_none passes f = λ i. record f { bad = λ k. sym (ap (λ b. cond (b && not (passes k)) false (f.bad k)) (none_below_zero k)) i }
+bad_none passes f = λ i. record f { bad = λ k. sym (ap (λ b. cond (b && not (passes k)) false (f.bad k)) (none_below_zero k)) i; losses = λ k. sym (ap (λ b. cond (b && not (passes k)) 0 (f.losses k)) (none_below_zero k)) i }
 
-pub bad_more : (passes : ℕ → Bool) (f : Facts) (n : ℕ) (p : Bool) → p ≡ passes n → record (bad_below passes f n) { bad = λ j. cond (eqb j n && not p) false ((bad_below passes f n).bad j) } ≡ bad_below passes f (n + 1)
+pub bad_more : (passes : ℕ → Bool) (f : Facts) (n : ℕ) (p : Bool) → p ≡ passes n → forgiven p (bad_below passes f n) n ≡ bad_below passes f (n + 1)
 unfolding bad_below
-bad_more passes f n p e = λ i. record f { bad = λ k. (gone_more (ltb k n) (eqb k n) p (passes k) false (f.bad k) (λ t. e ∙ ap passes (sym (eqb-true k n t))) ∙ ap (λ b. cond (b && not (passes k)) false (f.bad k)) (sym (next k n))) i }
+bad_more passes f n p e = λ i. record f {
+  bad = λ k. (gone_more (ltb k n) (eqb k n) p (passes k) false (f.bad k) (λ t. e ∙ ap passes (sym (eqb-true k n t))) ∙ ap (λ b. cond (b && not (passes k)) false (f.bad k)) (sym (next k n))) i;
+  losses = λ k. (gone_more (ltb k n) (eqb k n) p (passes k) 0 (f.losses k) (λ t. e ∙ ap passes (sym (eqb-true k n t))) ∙ ap (λ b. cond (b && not (passes k)) 0 (f.losses k)) (sym (next k n))) i;
+}
 
 -- all keys
 all_gone : {A : Type 0} (passes : Bool) (d x : A) (k n m : ℕ) → m ≤ n → (m ≤ k → x ≡ d) → cond (ltb k n && not passes) d x ≡ cond passes x d
@@ -66,7 +69,7 @@ all_gone passes d x k n m l past = ⊎_elim (λ h. ap (λ b. cond (b && not pass
 
 pub bad_all : (f : Facts) (n : ℕ) → IsSound f → keys f ≤ n → bad_below (known f) f n ≡ drop_bad f
 unfolding bad_below drop_bad
-bad_all f n s l = λ i. record f { bad = λ k. all_gone (known f k) false (f.bad k) k n (keys f) l (s.bad k) i }
+bad_all f n s l = λ i. record f { bad = λ k. all_gone (known f k) false (f.bad k) k n (keys f) l (s.bad k) i; losses = λ k. all_gone (known f k) 0 (f.losses k) k n (keys f) l (s.losses k) i }
 
 pub has_none : (passes : ℕ → Bool) (f : Facts) → f ≡ has_below passes f 0
 unfolding has_below
@@ -308,13 +311,21 @@ lost_nothing a h j k b e = sym (pick (eqb j k) refl)
     pick true p = ap (λ c. a || (c && b)) (ap h (eqb-true j k p) ∙ e) ∙ or-false a
     pick false p = ap (λ c. a || c) (and-false (h j)) ∙ or-false a
 
-pub bad_one : (f : Facts) (k : ℕ) (p : Bool) → record f { bad = put f.bad k (f.bad k && p) } ≡ record f { bad = λ j. cond (eqb j k && not p) false (f.bad j) }
-bad_one f k p = λ i. record f { bad = λ j. at j (eqb j k) refl p i }
+-- one key is forgiven, or has nothing to forgive
+pub forgiven_one : (f : Facts) (k : ℕ) → record f { bad = put f.bad k false; losses = put f.losses k 0 } ≡ forgiven false f k
+forgiven_one f k = λ i. record f { bad = λ j. ap (λ b. cond b false (f.bad j)) (sym (and-true (eqb j k))) i; losses = λ j. ap (λ b. cond b 0 (f.losses j)) (sym (and-true (eqb j k))) i }
+
+pub forgiven_none : (f : Facts) (k : ℕ) (p : Bool) → (p ≡ true) ⊎ ((f.bad k ≡ false) × (f.losses k ≡ 0)) → f ≡ forgiven p f k
+forgiven_none f k p h = λ i. record f { bad = λ j. at false f.bad j (eqb j k) refl (⊎_elim (λ e. inl e) (λ e. inr e.0) h) i; losses = λ j. at 0 f.losses j (eqb j k) refl (⊎_elim (λ e. inl e) (λ e. inr e.1) h) i }
   where
-    at : (j : ℕ) (t : Bool) → eqb j k ≡ t → (p : Bool) → cond t (f.bad k && p) (f.bad j) ≡ cond (t && not p) false (f.bad j)
-    at j true e true = and-true (f.bad k) ∙ ap f.bad (sym (eqb-true j k e))
-    at j true e false = and-false (f.bad k)
-    at j false e p = refl
+    at : {A : Type 0} (d : A) (g : ℕ → A) (j : ℕ) (t : Bool) → eqb j k ≡ t → (p ≡ true) ⊎ (g k ≡ d) → g j ≡ cond (t && not p) d (g j)
+    at d g j true e (inl q) = sym (ap (λ b. cond (not b) d (g j)) q)
+    at d g j true e (inr q) = flat (not p)
+      where
+        flat : (b : Bool) → g j ≡ cond b d (g j)
+        flat true = ap g (eqb-true j k e) ∙ q
+        flat false = refl
+    at d g j false e h = refl
 
 -- a key that is not held has no holder
 any_here : (p : ℕ → Bool) (a n x : ℕ) → a ≤ x → x < a + n → p x ≡ true → list_any p (range_with_len a n) ≡ true

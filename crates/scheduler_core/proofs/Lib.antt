@@ -14,3 +14,4 @@ pub mod RootLemmas
 pub mod PlacingLemmas
 pub mod DropLemmas
 pub mod WalkLemmas
+pub mod KilledLemmas

@@ -6,7 +6,7 @@ use Rattle.std.proofs.lemmas.List.FromFn.{length-range_with_len}
 use Rattle.small_facts.proofs.Every.{all_of_filter, all_join, all_weaker}
 use Rattle.small_facts.proofs.Ranges.{range_all_below}
 use Rattle.cluster_msgs.specs.declared.messages.Down.{Down}
-use Rattle.cluster_msgs.specs.declared.messages.Down.TheVariants.{StealRequest, RemoveReplicas, RefreshWhoHas, ComputeTask}
+use Rattle.cluster_msgs.specs.declared.messages.Down.TheVariants.{StealRequest, RemoveReplicas, AcquireReplicas, RefreshWhoHas, ComputeTask}
 use Rattle.cluster_rules.specs.Functions.{from_one}
 use Rattle.cluster_rules.specs.Derived.{below}
 use Rattle.cluster_rules.specs.Sched.{Facts, keys, deps, workers, connected, who_has}
@@ -14,7 +14,7 @@ use Rattle.cluster_rules.specs.SchedTable.{ask_message}
 use Rattle.cluster_rules.specs.SchedStep.{free_message, task_message, task_messages, all_to}
 use Rattle.cluster_rules.proofs.InsideSched.{all_flat_map_in}
 use Rattle.sched_changes.specs.declared.answer.Answer.{Answer}
-use Rattle.sched_changes.specs.declared.answer.Answer.TheVariants.{Nothing, Refresh, AskBack, Remove}
+use Rattle.sched_changes.specs.declared.answer.Answer.TheVariants.{Nothing, Refresh, AskBack, Remove, Acquire}
 use Rattle.sched_changes.specs.Answers.{answer_of}
 use Rattle.scheduler_core.specs.Mail.{has_pair, worker_mail}
 use Rattle.scheduler_core.specs.Posted.{taken_keys}
@@ -25,6 +25,7 @@ AnswersKey n Nothing = Unit {0}
 AnswersKey n (Refresh w k) = Unit {0}
 AnswersKey n (AskBack k) = Unit {0}
 AnswersKey n (Remove w k) = k < n
+AnswersKey n (Acquire w k) = Unit {0}
 
 -- a message to this worker that takes away only keys below n
 record IsSent (n w : ℕ) (m : ℕ × Down) : Type 0 where
@@ -55,6 +56,11 @@ answer_sent f n w Nothing h = tt
 answer_sent f n w (Refresh v k) h = pick (w == v)
   where
     pick : (b : Bool) → AllByRecursion (IsSent n w) (all_to w (cond b (RefreshWhoHas (who_has f (k ∷ [])) ∷ []) []))
+    pick true = (record { to = refl; taken = tt }, tt)
+    pick false = tt
+answer_sent f n w (Acquire v k) h = pick (w == v)
+  where
+    pick : (b : Bool) → AllByRecursion (IsSent n w) (all_to w (cond b (AcquireReplicas (who_has f (k ∷ [])) ∷ []) []))
     pick true = (record { to = refl; taken = tt }, tt)
     pick false = tt
 answer_sent f n w (AskBack k) h = place (f.on k)
@@ -102,6 +108,11 @@ few_answers f w Nothing = omega arith
 few_answers f w (Refresh v k) = pick (w == v)
   where
     pick : (b : Bool) → length (all_to w (cond b (RefreshWhoHas (who_has f (k ∷ [])) ∷ []) [])) ≤ 1
+    pick true = omega arith
+    pick false = omega arith
+few_answers f w (Acquire v k) = pick (w == v)
+  where
+    pick : (b : Bool) → length (all_to w (cond b (AcquireReplicas (who_has f (k ∷ [])) ∷ []) [])) ≤ 1
     pick true = omega arith
     pick false = omega arith
 few_answers f w (AskBack k) = place (f.on k)

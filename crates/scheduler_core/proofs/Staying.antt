@@ -1,5 +1,5 @@
 -- A key that is asked back stays where it is while the facts settle.
-use Rattle.std.proofs.Common.{◌≡◌, ℕ, Bool, true, Option, Some, None, is_some, ap, ◌∙◌}
+use Rattle.std.proofs.Common.{◌≡◌, ℕ, Bool, true, false, cond, refl, sym, Option, Some, None, is_some, ap, ◌∙◌}
 use Rattle.std.proofs.lemmas.Bool.{false≢true}
 use Rattle.small_facts.proofs.Options.{cond_where_some}
 use Rattle.small_facts.proofs.Truth.{cond_where_true}
@@ -11,9 +11,13 @@ use Rattle.cluster_laws.specs.Settled.{IsSettled}
 use Rattle.scheduler_core.specs.Settling.{let_go}
 
 -- facts that have settled, with other steals
+none_where : (b : Bool) (n : ℕ) → (b ≡ false → n ≡ 0) → cond b n 0 ≡ n
+none_where true n h = refl
+none_where false n h = sym (h refl)
+
 no_bad : (f : Facts) (s : ℕ → Option (ℕ × Bool)) → IsSettled f → drop_bad (record f { steal = s }) ≡ record f { steal = s }
 unfolding drop_bad known wanted
-no_bad f s v = λ i. record f { steal = s; bad = λ k. cond_where_true (known f k) (f.bad k) (v.errors_are_known k) i }
+no_bad f s v = λ i. record f { steal = s; bad = λ k. cond_where_true (known f k) (f.bad k) (v.errors_are_known k) i; losses = λ k. none_where (known f k) (f.losses k) (v.losses_are_known k) i }
 
 no_has : (f : Facts) (s : ℕ → Option (ℕ × Bool)) → IsSettled f → drop_has (record f { steal = s }) ≡ record f { steal = s }
 unfolding drop_has need wanted held erred

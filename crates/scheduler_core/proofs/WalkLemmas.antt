@@ -50,6 +50,7 @@ filter_map_gap g n m l h = gap_to (λ k. filter_map g (below k)) n m l (λ k a b
 pub tidy_settled : (s t : Tasks) → IsSettled (facts s) → ((k : ℕ) → has s.touched k ≡ false) → Follows s t → IsTidy t
 tidy_settled s t v u a = record {
   errors = λ k l e b. let h = same k l e in h.known ∙ v.errors_are_known k (sym h.bad ∙ b);
+  losses = λ k l e b. let h = same k l e in h.losses ∙ v.losses_are_known k (sym h.known ∙ b);
   copies = λ w k l e b. let h = same k l e in h.need ∙ v.held_are_needed w k (sym (ap is_some (h.has w)) ∙ b);
   places = λ k l e b. let h = same k l e in h.ready ∙ v.placed_are_ready k (sym (ap is_some h.on) ∙ b);
 }
@@ -60,6 +61,7 @@ tidy_settled s t v u a = record {
 pub tidy_then : (s t : Tasks) → IsTidy s → Follows s t → IsTidy t
 tidy_then s t v a = record {
   errors = λ k l e b. let h = same k l e in h.known ∙ v.errors k (there k l) (before k e) (sym h.bad ∙ b);
+  losses = λ k l e b. let h = same k l e in h.losses ∙ v.losses k (there k l) (before k e) (sym h.known ∙ b);
   copies = λ w k l e b. let h = same k l e in h.need ∙ v.copies w k (there k l) (before k e) (sym (ap is_some (h.has w)) ∙ b);
   places = λ k l e b. let h = same k l e in h.ready ∙ v.places k (there k l) (before k e) (sym (ap is_some h.on) ∙ b);
 }
@@ -102,13 +104,17 @@ over {A} k n m p d x l h = pick (ltb k n) (ltb k m) refl refl
     pick false true u v = there (h (ltb-false k n u) (ltb-true k m v))
     pick false false u v = refl
 
-pub bad_over : (passes : ℕ → Bool) (f : Facts) (n m : ℕ) → n ≤ m → ((k : ℕ) → n ≤ k → k < m → f.bad k ≡ true → passes k ≡ true) → bad_below passes f n ≡ bad_below passes f m
+pub bad_over : (passes : ℕ → Bool) (f : Facts) (n m : ℕ) → n ≤ m → ((k : ℕ) → n ≤ k → k < m → f.bad k ≡ true → passes k ≡ true) → ((k : ℕ) → n ≤ k → k < m → passes k ≡ false → f.losses k ≡ 0) → bad_below passes f n ≡ bad_below passes f m
 unfolding bad_below
-bad_over passes f n m l h = λ i. record f { bad = λ k. over k n m (passes k) false (f.bad k) l (λ a b. either k (f.bad k) refl a b) i }
+bad_over passes f n m l h g = λ i. record f { bad = λ k. over k n m (passes k) false (f.bad k) l (λ a b. either k (f.bad k) refl a b) i; losses = λ k. over k n m (passes k) 0 (f.losses k) l (λ a b. none k (passes k) refl a b) i }
   where
     either : (k : ℕ) (b : Bool) → f.bad k ≡ b → n ≤ k → k < m → (passes k ≡ true) ⊎ (f.bad k ≡ false)
     either k true e a c = inl (h k a c e)
     either k false e a c = inr e
+
+    none : (k : ℕ) (b : Bool) → passes k ≡ b → n ≤ k → k < m → (passes k ≡ true) ⊎ (f.losses k ≡ 0)
+    none k true e a c = inl e
+    none k false e a c = inr (g k a c e)
 
 pub has_over : (passes : ℕ → Bool) (f : Facts) (n m : ℕ) → n ≤ m → ((w k : ℕ) → n ≤ k → k < m → holds f w k ≡ true → passes k ≡ true) → has_below passes f n ≡ has_below passes f m
 unfolding has_below
@@ -194,6 +200,10 @@ pub in_setting : (s t : Tasks) (k : ℕ) → Follows s t → k < keys (facts t) 
 in_setting s t k a l = subst (λ (c : Setting). k < length c.shape.deps) a.setting l
 
 -- of keys that are not there nothing is to be said
+-- a key that is not there has no losses
+pub losses_there : (f : Facts) (k : ℕ) → IsSound f → (k < keys f → f.losses k ≡ 0) → f.losses k ≡ 0
+losses_there f k s h = ⊎_elim h (λ l. s.losses k l) (cases_lt k (keys f))
+
 pub bad_there : {P : Type 0} (f : Facts) (k : ℕ) → IsSound f → f.bad k ≡ true → (k < keys f → P) → P
 bad_there f k s e h = ⊎_elim h (λ l. absurd (false≢true (sym (s.bad k l) ∙ e))) (cases_lt k (keys f))
 

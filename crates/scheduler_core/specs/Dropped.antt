@@ -2,9 +2,13 @@
 use Rattle.std.specs.Prelude.{ℕ, ◌==◌, nat_lt, nat_le, Bool, false, not, ◌&&◌, None, cond}
 use Rattle.cluster_rules.specs.Sched.{Facts}
 
--- the keys below n that do not pass are no longer bad
+-- the key is not bad and has no losses, unless it passes
+abbrev pub forgiven : Bool → Facts → ℕ → Facts
+forgiven passes f k = record f { bad = λ j. cond (j == k && not passes) false (f.bad j); losses = λ j. cond (j == k && not passes) 0 (f.losses j) }
+
+-- the keys below n that do not pass are no longer bad, and have no losses
 unfoldable pub bad_below : (ℕ → Bool) → Facts → ℕ → Facts
-bad_below passes f n = record f { bad = λ k. cond (nat_lt k n && not (passes k)) false (f.bad k) }
+bad_below passes f n = record f { bad = λ k. cond (nat_lt k n && not (passes k)) false (f.bad k); losses = λ k. cond (nat_lt k n && not (passes k)) 0 (f.losses k) }
 
 -- the workers up to m no longer hold the key
 unfoldable pub copies_up_to : ℕ → Facts → ℕ → Facts

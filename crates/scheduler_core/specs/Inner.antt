@@ -2,6 +2,7 @@
 use Rattle.std.specs.Prelude.{◌≡◌, ℕ, ◌+◌, ◌*◌, ◌^◌, ◌≤◌, false}
 use Rattle.cluster_rules.specs.Sched.{Facts}
 use Rattle.cluster_laws.specs.Settled.{IsSettled}
+use Rattle.cluster_laws.specs.Losses.{AreFew}
 use Rattle.key_sets.specs.Sets.{has}
 use Rattle.task_table.specs.Tasks.{facts}
 use Rattle.scheduler_core.specs.Cores.{Core}
@@ -14,6 +15,7 @@ seen_core a = record { stored = a.table.stored; stopped = a.stopped; taken = a.t
 -- what holds of the facts after so many events: they have settled, and each event drew few numbers and sent few messages
 pub record IsAfter (f : Facts) (taken : ℕ) : Type 0 where
   pub settled : IsSettled f
+  pub few : AreFew f
   pub counter : f.counter ≤ 1 + taken * 2 ^ 16
   pub finishes : f.finishes ≤ taken
   pub sent : (w : ℕ) → f.sent w ≤ taken * (3 * 2 ^ 20)

@@ -10,3 +10,4 @@ pub mod Sent
 pub mod Courses
 pub mod Cores
 pub mod Inner
+pub mod Killed

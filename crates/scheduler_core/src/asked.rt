@@ -59,6 +59,7 @@ fn asked_keys(event: &SchedEvent) -> &[u32]
         SchedEvent::FromWorker { .. } => &[],
         SchedEvent::Balance => &[],
         SchedEvent::Evict => &[],
+        SchedEvent::Replicate { .. } => &[],
     }
 }
 

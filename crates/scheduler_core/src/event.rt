@@ -58,6 +58,7 @@ pub fn carry_out(
     requires drop { drop ≡ drop_for (facts table.old) event.now }
     requires room { (facts table.old).counter + 2 * keys (facts table.old) < 2 ^ 62 }
     requires finishes { (facts table.old).finishes < 2 ^ 62 }
+    requires losses { (k : ℕ) → (facts table.old).losses k < 2 ^ 31 }
     requires sent { (w : ℕ) → (facts table.old).sent w + 3 * 2 ^ 20 < 2 ^ 62 }
     ensures facts { OnOk result (facts table.new ≡ (sched_step (facts table.old) event.now).facts) }
     ensures untouched { OnOk result ((k : ℕ) → has table.new.touched k ≡ false) }
@@ -87,6 +88,7 @@ fn take(
     requires drop { drop ≡ drop_for (facts table.old) event.now }
     requires room { (facts table.old).counter + 2 * keys (facts table.old) < 2 ^ 62 }
     requires finishes { (facts table.old).finishes < 2 ^ 62 }
+    requires losses { (k : ℕ) → (facts table.old).losses k < 2 ^ 31 }
     requires sent { (w : ℕ) → (facts table.old).sent w + 3 * 2 ^ 20 < 2 ^ 62 }
     requires made { made.old ≡ nothing }
     ensures facts { OnOk result (facts table.new ≡ (sched_step (facts table.old) event.now).facts) }
@@ -118,6 +120,7 @@ fn settle(
     requires drop { drop ≡ drop_for (facts table.old) event.now }
     requires room { (facts table.old).counter + 2 * keys (facts table.old) < 2 ^ 62 }
     requires finishes { (facts table.old).finishes < 2 ^ 62 }
+    requires losses { (k : ℕ) → (facts table.old).losses k < 2 ^ 31 }
     ensures course { IfOk result (λ course. IsCourse table.old event.now table.new course) }
     ensures setting { (facts table.new).setting ≡ (facts table.old).setting }
 {

@@ -1,11 +1,12 @@
 //! The scheduler's core.
-ghost use Rattle.std.specs.Prelude.{◌≡◌, ◌↔◌, ◌+◌, ◌<◌, ◌≤◌, ◌^◌, false, true, IfOk, OnOk, None};
-ghost use Rattle.cluster_rules.specs.Sched.{sched_opening, keys, known, blame, phase};
+ghost use Rattle.std.specs.Prelude.{◌≡◌, ◌↔◌, ◌+◌, ◌<◌, ◌≤◌, ◌^◌, false, true, IfOk, IfSome, OnOk, None};
+ghost use Rattle.cluster_rules.specs.Sched.{sched_opening, is_above, keys, known, blame, phase};
 ghost use Rattle.cluster_rules.specs.SchedTable.{sched_takes};
 ghost use Rattle.cluster_rules.specs.SchedStep.{sched_step};
 ghost use Rattle.cluster_laws.specs.Settled.{IsSettled};
 ghost use Rattle.cluster_laws.specs.Attempts.{AttemptsEndForACause};
 ghost use Rattle.scheduler_core.specs.Cores.{facts};
+ghost use Rattle.scheduler_core.specs.Killed.{IsKilled};
 ghost use Rattle.cluster_rules.specs.Runs.{event_limit};
 ghost use Rattle.scheduler_core.specs.Sent.{appended, sent_by, HasGrown};
 
@@ -13,7 +14,8 @@ use crate::event::carry_out;
 use crate::phase::phase;
 use cluster_msgs::{GraphShape, Outbox, Phase, SchedEvent, Stop};
 use cluster_rules::Facts;
-use sched_changes::{drop_for, steal_for, takes};
+use sched_changes::asking::{allowed_of, losses_of};
+use sched_changes::{drop_for, is_above, steal_for, takes};
 use std::alloc::{AllocError, Global};
 use std::marker::Model;
 use task_table::TaskTable;
@@ -44,7 +46,8 @@ impl Model for Sched {
 
 impl Sched {
     /// The scheduler of a cluster that starts, over this graph: nobody has joined and nothing is wanted. It serves so many
-    /// clients, and gives a worker at most `saturation` tenths of its threads in tasks without dependencies.
+    /// clients, and gives a worker at most `saturation` tenths of its threads in tasks without dependencies. A key whose worker
+    /// left more than `allowed` times while the key was assigned to it has an error of its own.
     ///
     /// # Errors
     /// Where no memory is left.
@@ -53,14 +56,15 @@ impl Sched {
         shape: GraphShape,
         clients: u32,
         saturation: u32,
+        allowed: Option<u32>,
     ) -> Result<Sched, AllocError>
         requires clients { clients ≤ 16 }
         requires saturation { (1 ≤ saturation) × (saturation ≤ 1000) }
-        ensures facts { IfOk result (λ sched. facts sched ≡ sched_opening (record { shape = shape; clients = clients; saturation = saturation; allowed = None })) }
+        ensures facts { IfOk result (λ sched. facts sched ≡ sched_opening (record { shape = shape; clients = clients; saturation = saturation; allowed = allowed })) }
         ensures runs { IfOk result (λ sched. sched.stopped ≡ false) }
         ensures taken { IfOk result (λ sched. sched.taken ≡ 0) }
     {
-        let table = TaskTable::new(alloc, shape, clients, saturation)?;
+        let table = TaskTable::new(alloc, shape, clients, saturation, allowed)?;
         Ok(Sched {
             alloc,
             table,
@@ -79,7 +83,8 @@ impl Sched {
     /// `Memory` where no memory is left: the core has stopped then, and answers so to every later event, and each list of
     /// `out` has a front of the event's own messages behind what it had, maybe none. Else `Spent` exactly where the core
     /// has taken 2^40 events. Else `Refused` exactly where the worker is not connected, the client is not there, a key is
-    /// out of range, Balance or Evict has no choice, or Join names no thread or more than 16, or meets the limits of 64
+    /// out of range, Balance or Evict has no choice, Replicate names a key that is not held or a worker that holds it, or
+    /// Join names no thread or more than 16, or meets the limits of 64
     /// connected workers or of 1,024 numbers. After the latter two all is as before.
     pub fn on(&mut self, event: SchedEvent, out: &mut Outbox) -> Result<(), Stop>
         // The event is taken: the facts, what is to be sent, and what is counted.
@@ -168,6 +173,52 @@ impl Sched {
         ensures { result ≡ blame (facts self.now) key }
     {
         self.table.blame(key)
+    }
+
+    /// How often the key's worker left while the key was assigned to it, since the key was last not known. A key that is
+    /// not there has lost none. Takes no memory.
+    pub fn losses(&self, key: u32) -> u32
+        ensures { result ≡ (facts self.now).losses key }
+    {
+        self.table.sound();
+        if key < self.table.keys() {
+            losses_of(&self.table, key)
+        } else {
+            0
+        }
+    }
+
+    /// How often the key's worker left, where that is more often than is allowed: it is once more then, and the key has an error
+    /// of its own. None of every other key, and once the core has stopped. Takes no memory.
+    #[tactic(auto, using(crate::proofs::KilledLemmas::killed_is))]
+    pub fn killed(&self, key: u32) -> Option<u32>
+        ensures killed { IfSome result (IsKilled (facts self.now) key) }
+        ensures none { result ≡ None → self.now.stopped ≡ false → is_above (facts self.now).setting.allowed ((facts self.now).losses key) ≡ false }
+    {
+        if self.stopped {
+            return None;
+        }
+        self.settled();
+        let losses = self.losses(key);
+        if is_above(self.allowed(), losses) {
+            Some(losses)
+        } else {
+            None
+        }
+    }
+
+    /// Whether the key has an error of its own: it met a zero divisor, or was killed. Takes no memory.
+    pub fn is_bad(&self, key: u32) -> bool
+        ensures { result ≡ (facts self.now).bad key }
+    {
+        self.table.table().is_bad(key)
+    }
+
+    /// How often a key's worker may leave while the key is assigned to it, where that is bounded. Takes no memory.
+    pub fn allowed(&self) -> Option<u32>
+        ensures { result ≡ (facts self.now).setting.allowed }
+    {
+        allowed_of(&self.table)
     }
 
     /// How many finishes counted. Takes no memory.

@@ -1,18 +1,19 @@
 //! What settling takes away: errors of keys that are not known, copies of keys that are not needed, and places of keys
 //! that are not ready. Each walk visits the touched keys alone: of all others there is nothing to take.
-ghost use Rattle.std.specs.Prelude.{◌≡◌, ℕ, ◌<◌, ◌==◌, ◌&&◌, ◌||◌, not, true, false, None, OnOk, cond, ◌++◌, ◌∷◌, []};
+ghost use Rattle.std.specs.Prelude.{◌≡◌, ℕ, ◌<◌, ◌==◌, ◌&&◌, ◌||◌, not, true, false, None, OnOk, ◌++◌, ◌∷◌, []};
 ghost use Rattle.cluster_rules.specs.Functions.{put, put_pair};
 ghost use Rattle.cluster_rules.specs.Sched.{keys, known, need, ready, holds, is_on};
 ghost use Rattle.cluster_rules.specs.SchedStep.{drop_bad, drop_has, drop_on};
 ghost use Rattle.task_table.specs.Tasks.{facts};
 ghost use Rattle.sched_changes.specs.Pairs.{has_pair};
 ghost use Rattle.sched_changes.specs.Follows.{Follows};
-ghost use Rattle.scheduler_core.specs.Dropped.{held_nowhere, placed_nowhere};
+ghost use Rattle.scheduler_core.specs.Dropped.{forgiven, held_nowhere, placed_nowhere};
 ghost use Rattle.scheduler_core.specs.Settling.{let_go, goes, copy_goes, place_goes};
 ghost use Rattle.scheduler_core.specs.Tidy.{IsTidy};
 
 use crate::walk::next_touched;
 use cluster_rules::Facts;
+use sched_changes::asking::losses_of;
 use sched_changes::{Pairs, make};
 use std::alloc::AllocError;
 use task_table::{Change, TaskTable};
@@ -33,7 +34,7 @@ pub fn let_go(table: &mut TaskTable, lost: &mut Pairs) -> Result<(), AllocError>
     drop_places(table, lost)
 }
 
-/// Keys that are not known are not bad.
+/// Keys that are not known are not bad and have no losses.
 fn forget_errors(table: &mut TaskTable)
     requires { IsTidy table.old }
     ensures facts { facts table.new ≡ drop_bad (facts table.old) }
@@ -47,13 +48,15 @@ fn forget_errors(table: &mut TaskTable)
     }
 }
 
-/// The key is not bad, unless it is known.
+/// The key is not bad and has no losses, unless it is known.
 fn forget_error(table: &mut TaskTable, key: u32)
     requires { key < keys (facts table.old) }
-    ensures facts { facts table.new ≡ record (facts table.old) { bad = λ j. cond (j == key && not (known (facts table.old) key)) false ((facts table.old).bad j) } }
+    ensures facts { facts table.new ≡ forgiven (known (facts table.old) key) (facts table.old) key }
     ensures follows { Follows table.old table.new }
 {
-    let is_stale = is_bad(table, key) & !table.is_known(key);
+    let is_known = table.is_known(key);
+    let has_any = is_bad(table, key) | (losses_of(table, key) > 0);
+    let is_stale = has_any & !is_known;
     if is_stale {
         make(table, Change::Forgive { key });
     }

@@ -1,7 +1,7 @@
 //! What the workers are told.
 ghost use Rattle.std.specs.Prelude.{◌≡◌, ℕ, ◌<◌, ◌++◌, ◌∷◌, ◌==◌, [], false, cond, length, OnOk};
 ghost use Rattle.std.specs.List.{flat_map};
-ghost use Rattle.cluster_msgs.specs.declared.messages.Down.TheVariants.{RefreshWhoHas, RemoveReplicas};
+ghost use Rattle.cluster_msgs.specs.declared.messages.Down.TheVariants.{AcquireReplicas, RefreshWhoHas, RemoveReplicas};
 ghost use Rattle.cluster_rules.specs.Sched.{keys, connected, workers, who_has};
 ghost use Rattle.cluster_rules.specs.SchedTable.{ask_message};
 ghost use Rattle.cluster_rules.specs.SchedStep.{all_to};
@@ -143,6 +143,14 @@ fn tell_answer(
             worker: holder,
             key,
         } => tell_remove(alloc, worker == holder, worker, key, out),
+        Answer::Acquire { worker: taker, key } => tell_acquire(
+            alloc,
+            table,
+            worker == taker,
+            worker,
+            key,
+            out,
+        ),
     }
 }
 
@@ -195,6 +203,24 @@ fn tell_remove(
         let mut keys = KeyList::new(alloc);
         keys.push(key)?;
         out.push((worker, Down::RemoveReplicas { keys }))?;
+    }
+    Ok(())
+}
+
+/// Appends the order to get a copy, and from whom, where the worker is to.
+fn tell_acquire(
+    alloc: Global,
+    table: &FactTable,
+    is: bool,
+    worker: u32,
+    key: u32,
+    out: &mut Sequence<(u32, Down)>,
+) -> Result<(), AllocError>
+    ensures { OnOk result (out.new ≡ out.old ++ cond is ((worker, AcquireReplicas (who_has (facts_of table.now) (key ∷ []))) ∷ []) []) }
+{
+    if is {
+        let who_has = who_has(alloc, table, &[key])?;
+        out.push((worker, Down::AcquireReplicas { who_has }))?;
     }
     Ok(())
 }

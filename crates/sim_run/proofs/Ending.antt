@@ -11,7 +11,7 @@ use Rattle.cluster_msgs.specs.declared.events.Report.{Report}
 use Rattle.cluster_rules.specs.World.{Job}
 use Rattle.block_lowering.specs.Jobs.{TellsFeed}
 use Rattle.job_run.specs.declared.ends.Ended.{Ended}
-use Rattle.job_run.specs.declared.ends.Ended.TheVariants.{Done, Limit, File, Zero, ReadFault, WriteFault, OutOfMemory}
+use Rattle.job_run.specs.declared.ends.Ended.TheVariants.{Done, Limit, File, Zero, Killed, ReadFault, WriteFault, OutOfMemory}
 use Rattle.job_run.specs.Inputs.{told_all}
 use Rattle.job_run.specs.Lowering.{LowerCause}
 use Rattle.job_run.specs.Part.{AreLeft, AreWhole, IsNoneOf, RaisedAtMost}
@@ -29,13 +29,13 @@ use Rattle.sim_run.specs.declared.ends.SimEnded.TheVariants.{Events, Ran}
 use Rattle.sim_run.specs.Ends.{Cause, Created, Opened, PrintsServed, Prints, RanCause, RanCreated, RanPrints, RanSaves, Saves, SavesPlan, SimulatesPlan, WhereTold}
 use Rattle.sim_run.specs.Jobs.{IsTextJob, wanted_of}
 use Rattle.sim_run.specs.Serving.{ServesAll, ServesFiles, ServesPart, job_named}
-use Rattle.sim_run.specs.Simulated.{IsOutOfEvents, IsServed, SimulatesTo}
+use Rattle.sim_run.specs.Simulated.{IsKilled, IsOutOfEvents, IsServed, SimulatesTo}
 use Rattle.sim_run.specs.Texts.{lines_of}
 
 -- ## Before the inputs are accepted
 
 -- an end at which a simulated run leaves what any other leaves
-ran : (p : Plan) (s : SimWords) (old new : View) (end : Ended) → RunsPlan p old new end → RanCause p old new end → RanSaves p old.files new.files end → RanCreated (names_saved p) old.files.created new.files.created end → RanPrints p s old new end →
+ran : (p : Plan) (s : SimWords) (old new : View) (end : Ended) → RunsPlan p old new end → RanCause p s old new end → RanSaves p old.files new.files end → RanCreated (names_saved p) old.files.created new.files.created end → RanPrints p s old new end →
     SimulatesPlan p s old new (Ran end)
 ran p s old new end r cause saves created prints = record {
   cause = cause;
@@ -57,6 +57,7 @@ lowering-ends p s v Done cause = absurd cause
 lowering-ends p s v (Limit quantity) cause = let r = lowering_runs p v (Limit quantity) cause in ran p s v v (Limit quantity) r r.cause r.saves r.created r.prints
 lowering-ends p s v (File place error) cause = absurd cause
 lowering-ends p s v (Zero node block) cause = absurd cause
+lowering-ends p s v (Killed key losses) cause = absurd cause
 lowering-ends p s v ReadFault cause = absurd cause
 lowering-ends p s v WriteFault cause = absurd cause
 lowering-ends p s v OutOfMemory cause = let r = lowering_runs p v OutOfMemory cause in ran p s v v OutOfMemory r r.cause r.saves r.created r.prints
@@ -69,6 +70,7 @@ reading-ends p s old new (File place error) small cause opens only =
     let r = reading_runs p old new (File place error) small cause opens only in
     ran p s old new (File place error) r r.cause r.saves r.created r.prints
 reading-ends p s old new (Zero node block) small cause opens only = absurd cause
+reading-ends p s old new (Killed key losses) small cause opens only = absurd cause
 reading-ends p s old new ReadFault small cause opens only =
     let r = reading_runs p old new ReadFault small cause opens only in
     ran p s old new ReadFault r r.cause r.saves r.created r.prints
@@ -200,6 +202,11 @@ module _ (p : Plan) (s : SimWords) (old mid : View) (files : List Content) (head
       let bare = part.bare tt in
       ends p s old new (Ran (Zero node block)) (follows new f)
       (a.small, record { inputs = a.fit; zero_at = on_named p old.files mid.files files heads (λ n. IsFaulty p n node block) a.inputs part.cause })
+      (bare.0 ∙ a.opens.held) (f.opened ∙ a.opened) (bare.1 ∙ a.opens.created) (f.out ∙ a.only.out)
+  stopped-ends new (Ran (Killed key losses)) f part =
+      let bare = part.bare tt in
+      ends p s old new (Ran (Killed key losses)) (follows new f)
+      (a.small, a.fit, part.cause.0, simulates (λ job wanted s. IsKilled job wanted s key) part.cause.1)
       (bare.0 ∙ a.opens.held) (f.opened ∙ a.opened) (bare.1 ∙ a.opens.created) (f.out ∙ a.only.out)
   stopped-ends new (Ran ReadFault) f part =
       ends p s old new (Ran ReadFault) (follows new f) (a.small, rose_before old.read_faults mid.read_faults new.read_faults a.later part.cause)

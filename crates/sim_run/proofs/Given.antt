@@ -4,7 +4,7 @@ use Rattle.io_edge.specs.Cause.{Rose, TakesFaults}
 use Rattle.io_edge.proofs.GivenLaws.{more_around}
 use Rattle.io_edge.specs.View.{Files, OnlyReads, View}
 use Rattle.cluster_msgs.specs.declared.events.Report.{Report}
-use Rattle.job_run.specs.declared.ends.Ended.TheVariants.{Done, Limit, File, Zero, ReadFault, WriteFault, OutOfMemory}
+use Rattle.job_run.specs.declared.ends.Ended.TheVariants.{Done, Limit, File, Zero, Killed, ReadFault, WriteFault, OutOfMemory}
 use Rattle.job_run.specs.Plan.{Plan}
 use Rattle.job_run.specs.Values.{Named}
 use Rattle.command_words.specs.declared.sim.SimWords.{SimWords}
@@ -19,6 +19,7 @@ stops-as p s named told again reads reads' writes writes' (Ran Done) f g k h = a
 stops-as p s named told again reads reads' writes writes' (Ran (Limit quantity)) f g k h = absurd h
 stops-as p s named told again reads reads' writes writes' (Ran (File place error)) f g k h = absurd h
 stops-as p s named told again reads reads' writes writes' (Ran (Zero node block)) f g k h = λ t. h (f t)
+stops-as p s named told again reads reads' writes writes' (Ran (Killed key losses)) f g k h = (h.0, λ t. h.1 (f t))
 stops-as p s named told again reads reads' writes writes' (Ran ReadFault) f g k h = g h
 stops-as p s named told again reads reads' writes writes' (Ran WriteFault) f g k h =
     let all = h.0 in (record { report = all.report; turns = all.turns; served = λ t. all.served (f t); values = λ t. all.values (f t) }, k h.1)

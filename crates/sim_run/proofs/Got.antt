@@ -8,7 +8,8 @@ use Rattle.cluster_world.specs.declared.state.Course.TheVariants.{Going}
 use Rattle.cluster_world.specs.declared.state.State.{State}
 use Rattle.cluster_world.specs.Worlds.{IsMade, cluster, setting, world}
 use Rattle.cluster_sim.specs.Openings.{AreWanted}
-use Rattle.cluster_sim.specs.Simulations.{HasAll, IsNeededFault}
+use Rattle.cluster_sim.specs.Faults.{IsNeededFault}
+use Rattle.cluster_sim.specs.Simulations.{HasAll}
 use Rattle.task_graph.specs.Graphs.{operation, shape_of, task_at, value}
 use Rattle.lowering_laws.specs.Lowered.{lowered}
 use Rattle.lowering_laws.specs.Named.{layout_of}

@@ -5,8 +5,9 @@ use Rattle.io_edge.specs.Content.{followed_by}
 use Rattle.io_edge.specs.Given.{GivesMore}
 use Rattle.io_edge.specs.View.{View, Files, raised_by}
 use Rattle.cluster_msgs.specs.declared.events.Report.{Report}
+use Rattle.cluster_sim.specs.Faults.{IsKill}
 use Rattle.job_run.specs.declared.ends.Ended.{Ended}
-use Rattle.job_run.specs.declared.ends.Ended.TheVariants.{Done, Zero, WriteFault}
+use Rattle.job_run.specs.declared.ends.Ended.TheVariants.{Done, Zero, Killed, WriteFault}
 use Rattle.job_run.specs.Inputs.{InputsFit, told_all}
 use Rattle.job_run.specs.Part.{IsNoneOf}
 use Rattle.job_run.specs.Plan.{Plan, names_saved}
@@ -15,28 +16,32 @@ use Rattle.command_words.specs.declared.sim.SimWords.{SimWords}
 use Rattle.sim_run.specs.declared.ends.SimEnded.{SimEnded}
 use Rattle.sim_run.specs.declared.ends.SimEnded.TheVariants.{Events, Ran}
 use Rattle.sim_run.specs.Jobs.{IsTextJob}
-use Rattle.sim_run.specs.Simulated.{IsServed, IsOutOfEvents, SimulatesTo}
+use Rattle.sim_run.specs.Simulated.{IsServed, IsKilled, IsOutOfEvents, SimulatesTo}
 use Rattle.sim_run.specs.Texts.{lines_of}
 
 -- a fact of a simulation whose inputs are told
 abbrev pub WhereTold : Plan → Files → Type 0 → Type 0
 WhereTold p files P = IfSome (told_all files.held p.inputs) (λ contents. P)
 
--- Why a run ends so, where it ends as other runs do. A zero divisor is met by some needed block: not always the first.
-abbrev pub RanCause : Plan → View → View → Ended → Type 0
-RanCause p old new Done = IsSmall p × HasValues p old.files
-RanCause p old new (Zero node block) = IsSmall p × HasFault p old.files node block
-RanCause p old new WriteFault = IsSmall p × HasValues p old.files × (Rose old.write_faults new.write_faults ⊎ Rose old.print_faults new.print_faults)
-RanCause p old new end = RunCause p old new end
+-- Why a run ends so, where it ends as other runs do. A zero divisor is met by some needed block: not always the first. A killed key lost its worker
+-- once more than is allowed, which the script takes workers away for, and where the inputs are told, the drawn events killed it.
+abbrev pub RanCause : Plan → SimWords → View → View → Ended → Type 0
+RanCause p s old new Done = IsSmall p × HasValues p old.files
+RanCause p s old new (Zero node block) = IsSmall p × HasFault p old.files node block
+RanCause p s old new (Killed key losses) = IsSmall p × InputsFit p old.files × IsKill s.settings.allowed s.script losses
+    × WhereTold p old.files (SimulatesTo (IsTextJob p old.files s) s (λ job wanted s. IsKilled job wanted s key))
+RanCause p s old new WriteFault = IsSmall p × HasValues p old.files × (Rose old.write_faults new.write_faults ⊎ Rose old.print_faults new.print_faults)
+RanCause p s old new end = RunCause p old new end
 
 -- Why a simulation ends so. Where the events come to their end, the inputs are as declared, and where they are told, the drawn events do so.
 abbrev pub Cause : Plan → SimWords → View → View → SimEnded → Type 0
 Cause p s old new Events = IsSmall p × InputsFit p old.files × WhereTold p old.files (SimulatesTo (IsTextJob p old.files s) s IsOutOfEvents)
-Cause p s old new (Ran end) = RanCause p old new end
+Cause p s old new (Ran end) = RanCause p s old new end
 
 -- The saved files: as a run of the same job in the calling thread leaves them, and as they were where the client didn't get all.
 abbrev pub RanSaves : Plan → Files → Files → Ended → Type 0
 RanSaves p old new (Zero node block) = new.held ≡ old.held
+RanSaves p old new (Killed key losses) = new.held ≡ old.held
 RanSaves p old new end = RunSaves p old new end
 
 abbrev pub Saves : Plan → Files → Files → SimEnded → Type 0
@@ -51,6 +56,7 @@ Opened names old new (Ran end) = RunOpened names old new end
 -- the same of creations: none before the client got all
 abbrev pub RanCreated : List (List ℕ) → (List ℕ → ℕ) → (List ℕ → ℕ) → Ended → Type 0
 RanCreated names old new (Zero node block) = new ≡ old
+RanCreated names old new (Killed key losses) = new ≡ old
 RanCreated names old new end = RunCreated names old new end
 
 abbrev pub Created : List (List ℕ) → (List ℕ → ℕ) → (List ℕ → ℕ) → SimEnded → Type 0

@@ -5,12 +5,13 @@ use Rattle.io_edge.specs.View.{View, Files, OnlyWrites, raised_by}
 use Rattle.cluster_msgs.specs.declared.events.Report.{Report}
 use Rattle.cluster_rules.specs.World.{Job}
 use Rattle.task_graph.specs.Graphs.{operation, shape_of}
+use Rattle.cluster_sim.specs.Faults.{IsKill}
 use Rattle.cluster_sim.specs.declared.act.SimError.{SimError}
 use Rattle.cluster_sim.specs.declared.act.SimError.TheVariants as sim
 use Rattle.lowering_laws.specs.Lowered.{lowered}
 use Rattle.lowering_laws.specs.Named.{layout_of, name_of}
 use Rattle.job_run.specs.declared.ends.Ended.{Ended}
-use Rattle.job_run.specs.declared.ends.Ended.TheVariants.{Zero, ReadFault, WriteFault, OutOfMemory}
+use Rattle.job_run.specs.declared.ends.Ended.TheVariants.{Zero, Killed, ReadFault, WriteFault, OutOfMemory}
 use Rattle.job_run.specs.Lowering.{counts_made}
 use Rattle.job_run.specs.Part.{AreLeft, AreWhole, IsNoneOf, RaisedAtMost}
 use Rattle.job_run.specs.Plan.{Plan, names_saved, nodes_saved}
@@ -21,7 +22,7 @@ use Rattle.sim_run.specs.declared.ends.SimEnded.{SimEnded}
 use Rattle.sim_run.specs.declared.ends.SimEnded.TheVariants.{Events, Ran}
 use Rattle.sim_run.specs.declared.serving.Wanted.{Wanted}
 use Rattle.sim_run.specs.Jobs.{wanted_of}
-use Rattle.sim_run.specs.Simulated.{running, IsServed, IsOutOfEvents}
+use Rattle.sim_run.specs.Simulated.{running, IsServed, IsKilled, IsOutOfEvents}
 
 -- the job that is simulated, where the inputs hold these elements
 abbrev pub job_named : Plan → SimWords → Named → Job
@@ -65,6 +66,7 @@ pub record GotAll (p : Plan) (s : SimWords) (named : Named) (told : Type 0) : Ty
 -- why the client's blocks weren't all saved; the two facts are the causes of faults
 abbrev pub RanStops : Plan → SimWords → Named → Type 0 → Type 0 → Type 0 → Ended → Type 0
 RanStops p s named told reads writes (Zero node block) = told → IsFaulty p named node block
+RanStops p s named told reads writes (Killed key losses) = IsKill s.settings.allowed s.script losses × (told → IsKilled (job_named p s named) (wanted_of p) s key)
 RanStops p s named told reads writes ReadFault = reads
 RanStops p s named told reads writes WriteFault = GotAll p s named told × writes
 RanStops p s named told reads writes OutOfMemory = Unit {0}
@@ -78,6 +80,7 @@ Stops p s named told reads writes (Ran end) = RanStops p s named told reads writ
 abbrev pub IsBare : SimEnded → Type 0
 IsBare Events = Unit {0}
 IsBare (Ran (Zero node block)) = Unit {0}
+IsBare (Ran (Killed key losses)) = Unit {0}
 IsBare (Ran ReadFault) = Unit {0}
 IsBare (Ran end) = ⊥
 

@@ -1,12 +1,14 @@
 -- What is simulated, and how that ends: the events that the number draws, over any job and any keys that are wanted of it.
-use Rattle.std.specs.Prelude.{◌≤◌, ℕ, List, Option, None, length, take}
-use Rattle.cluster_msgs.specs.Shape.{Shape}
+use Rattle.std.specs.Prelude.{◌≡◌, ◌≤◌, ℕ, true, List, Option, Some, None, length, take}
+use Rattle.cluster_msgs.specs.Shape.{Shape, deps_of}
+use Rattle.cluster_msgs.specs.Values.{needed}
+use Rattle.cluster_msgs.specs.declared.events.Event.{Event}
 use Rattle.cluster_msgs.specs.declared.events.Report.{Report}
 use Rattle.cluster_rules.specs.World.{Job, World}
 use Rattle.cluster_rules.specs.Draw.{Plan as SimPlan, Served}
 use Rattle.cluster_sim.specs.Drawn.{word_of}
-use Rattle.cluster_sim.specs.Simulations.{IsReported, IsUnfinished}
-use Rattle.cluster_rules.specs.Runs.{event_limit}
+use Rattle.cluster_sim.specs.Simulations.{IsSimulated, IsReported, IsUnfinished}
+use Rattle.cluster_rules.specs.Runs.{killed, event_limit}
 use Rattle.cluster_laws.specs.Blocks.{job_of, setting_of}
 use Rattle.cluster_msgs.specs.declared.events.Item.{Item}
 use Rattle.command_words.specs.Walks.{joins_in, crew_of, after_items, TakesOneOf, IsItemAt}
@@ -31,12 +33,21 @@ sim_plan s = record { workers = s.settings.workers; threads = s.settings.threads
 
 -- a graph with its operations as the job of a cluster with one client
 abbrev pub running : {B : Type 0} → SimWords → Shape → (ℕ → List B → Option B) → Job
-running s graph op = job_of (setting_of graph 1 s.settings.saturation) op
+running s graph op = job_of (setting_of graph 1 s.settings.saturation s.settings.allowed) op
 
 -- the client got all that is wanted after so many turns, with this report
 pub record IsServed (job : Job) (wanted : List ℕ) (s : SimWords) (report : Report) (turns : ℕ) : Type 0 where
   pub world : World
   pub reported : IsReported job (word_of s.settings.number) (sim_plan s) wanted (Served turns None) world report
+
+-- the client was told that this key failed something that it wants: it is needed, and the events that were drawn up to then killed it
+pub record IsKilled (job : Job) (wanted : List ℕ) (s : SimWords) (key : ℕ) : Type 0 where
+  pub turns : ℕ
+  pub world : World
+  pub events : List Event
+  pub simulated : IsSimulated job (word_of s.settings.number) (sim_plan s) wanted events (Served turns (Some key)) world
+  pub killed : killed job events key ≡ true
+  pub needed : needed (deps_of job.setting.shape) wanted key ≡ true
 
 -- as many events were drawn as a world takes, and no end was reached
 abbrev pub IsOutOfEvents : Job → List ℕ → SimWords → Type 0

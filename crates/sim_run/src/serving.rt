@@ -21,7 +21,7 @@ use block_lowering::sources::Name;
 use block_lowering::{Elements, JobGraph, Lowered};
 use chunk_layout::Layout;
 use cluster_msgs::{JobSpec, KeyList, Report, Sequence};
-use cluster_sim::{SimError, SimPlan, simulate};
+use cluster_sim::{Fault, SimError, SimPlan, simulate};
 use cluster_world::World;
 use command_words::SimWords;
 use io_edge::{OpenFault, Site};
@@ -120,7 +120,7 @@ fn simulate_world<S: Site, E: Elements + Send + Sync + Drop>(
     requires wanted { IsWantedOf (plan_of job.now) wanted.now }
     requires words { AreSettings words }
     requires opening { IsOpening ⟦<JobGraph<S::In, E> as JobSpec>⟧.operation world.old }
-    requires setting { setting world.old ≡ setting_of (shape_of (tasks_of (plan_of job.now))) 1 words.settings.saturation }
+    requires setting { setting world.old ≡ setting_of (shape_of (tasks_of (plan_of job.now))) 1 words.settings.saturation words.settings.allowed }
     requires tasks { world.old.job.job.tasks ≡ tasks_of (plan_of job.now) }
     ensures files { SavesFiles (plan_of job.now) (S.view site.old) (S.view site.new) }
     ensures served { IfOk result (λ s. ServesAll (plan_of job.now) words E.named
@@ -144,8 +144,11 @@ fn simulate_world<S: Site, E: Elements + Send + Sync + Drop>(
         Ok(end) => end,
         Err(error) => return Err(ended(error)),
     };
-    match end.zero {
-        Some(key) => return Err(SimEnded::Ran(ended_at(alloc, job, wanted, key))),
+    match end.fault {
+        Some(Fault::Zero { key }) => return Err(SimEnded::Ran(ended_at(alloc, job, wanted, key))),
+        Some(Fault::Killed { key, losses }) => {
+            return Err(SimEnded::Ran(Ended::Killed { key, losses }));
+        }
         None => {}
     }
     match save_all(
@@ -169,8 +172,8 @@ fn simulate_world<S: Site, E: Elements + Send + Sync + Drop>(
 /// created.
 ///
 /// # Errors
-/// How the run ends: `Events` where the simulation came to no end, a zero divisor that the client was told of, a fault, or want of
-/// memory.
+/// How the run ends: `Events` where the simulation came to no end, a zero divisor or a killed key that the client was told of, a
+/// fault, or want of memory.
 pub fn serve<S: Site, E: Elements + Send + Sync + Drop>(
     alloc: Global,
     site: &mut S,
@@ -213,7 +216,8 @@ pub fn serve<S: Site, E: Elements + Send + Sync + Drop>(
     };
     let graph = JobGraph::<S::In, E>::new(alloc, graph, heads)?;
     let saturation = words.settings.saturation;
-    let mut world = World::new(alloc, graph, store, CLIENT, saturation)?;
+    let allowed = words.settings.allowed;
+    let mut world = World::new(alloc, graph, store, CLIENT, saturation, allowed)?;
     let served = simulate_world(alloc, site, job, &mut world, &wanted, words);
     site.give_store(world.into_feed());
     served

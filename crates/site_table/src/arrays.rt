@@ -1,4 +1,4 @@
-// Heads and regions of arrays' files.
+//! Heads and regions of arrays' files.
 ghost use Rattle.std.specs.Prelude.{◌≡◌, ◌≤◌, ◌<◌, ◌^◌, length};
 ghost use Rattle.npy_codec.specs.Regions.{IsWidth};
 

@@ -1,4 +1,4 @@
-// Regions of the nodes of a job, over files.
+//! Regions of the nodes of a job, over files.
 ghost use Rattle.std.specs.Prelude.{◌≡◌, ◌<◌, ◌≤◌, ◌+◌, ◌^◌, IsTrue, List, length, true};
 ghost use Rattle.io_edge.specs.Content.{Content};
 ghost use Rattle.nd_shape.specs.Region.{IsPart};

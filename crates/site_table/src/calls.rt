@@ -1,4 +1,4 @@
-// The calls of any site and of its objects.
+//! The calls of any site and of its objects.
 ghost use Rattle.std.specs.Prelude.{◌≡◌, ◌≤◌, ◌<◌, length};
 ghost use Rattle.io_edge.specs.Content.{size_of};
 

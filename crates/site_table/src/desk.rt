@@ -1,4 +1,4 @@
-// Sites in memory as lines describe them.
+//! Sites in memory as lines describe them.
 use crate::text::bytes_of;
 use crate::words::{Trouble, Words, number};
 use io_edge::{Counted, Kind, MemorySite, Refusal};

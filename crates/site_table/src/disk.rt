@@ -1,4 +1,4 @@
-// What another program does to a real file, and sees of one.
+//! What another program does to a real file, and sees of one.
 use crate::text::bytes_of;
 use crate::words::{Trouble, Words};
 use std::alloc::Global;

@@ -1,4 +1,4 @@
-// Runs of the program over sites of which one call fails.
+//! Runs of the program over sites of which one call fails.
 use crate::calls::faults;
 use crate::desk::{Desk, kind_of};
 use crate::runs::{status, told_streams};

@@ -12,6 +12,8 @@ mod calls;
 mod desk;
 mod disk;
 mod failing;
+mod noted;
+mod notes;
 mod places;
 mod runs;
 mod say;
@@ -24,6 +26,7 @@ use calls::call;
 use desk::Desk;
 use failing::{fail_each, run_for_part};
 use io_edge::{MemorySite, RealSite, Site};
+use noted::run_noted;
 use places::{change, counts, put_any, show, texts};
 use runs::{run_for_file, run_here, run_often};
 use say::say_word;
@@ -45,7 +48,7 @@ fn answer_run<R: Print + Files + Threads + Wait + RandomSource + AllocGlobal + S
     match place(
         name,
         &[
-            "top", "serial", "often", "saved", "fail", "failany", "partly",
+            "top", "serial", "often", "saved", "fail", "failany", "partly", "noted",
         ],
     ) {
         0 => run_here(rt, false, site, words),
@@ -55,6 +58,7 @@ fn answer_run<R: Print + Files + Threads + Wait + RandomSource + AllocGlobal + S
         4 => fail_each(rt, desk, words, false),
         5 => fail_each(rt, desk, words, true),
         6 => run_for_part(rt, desk, words),
+        7 => run_noted(rt, desk, words),
         _ => call(rt, rt.alloc(), site, name, words),
     }
 }

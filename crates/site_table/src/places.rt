@@ -1,4 +1,4 @@
-// What lines change, and what they show of a site in memory.
+//! What lines change, and what they show of a site in memory.
 use crate::desk::Desk;
 use crate::disk::disk;
 use crate::runs::told;

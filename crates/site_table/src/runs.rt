@@ -1,10 +1,11 @@
-// Runs of the program over sites in memory.
+//! Runs of the program over sites in memory.
 use crate::calls::faults;
 use crate::desk::Desk;
+use crate::notes::Notes;
 use crate::text::text_of;
 use crate::words::{Trouble, Words, split};
 use dask_top::{is_run, serial, top};
-use io_edge::{MemorySite, RealGate};
+use io_edge::MemorySite;
 use std::alloc::{AllocError, Global};
 use std::random::RandomSource;
 use std::sync::Wait;
@@ -20,7 +21,7 @@ pub fn status<R: Threads + Wait + RandomSource + AllocGlobal + Sync>(
     if is_serial {
         return in_one_thread(rt, words, site);
     }
-    top(rt, words, site, &RealGate)
+    top(rt, words, site, &Notes::none(rt.alloc()))
 }
 
 // Runs the one thread of the program over a site, or the whole program where the words are those of a run by threads.
@@ -32,7 +33,7 @@ fn in_one_thread<R: Threads + Wait + RandomSource + AllocGlobal + Sync>(
     if !is_run(words) {
         return serial(rt.alloc(), words, site);
     }
-    top(rt, words, site, &RealGate)
+    top(rt, words, site, &Notes::none(rt.alloc()))
 }
 
 /// What the file of a name holds.

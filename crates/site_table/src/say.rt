@@ -1,4 +1,4 @@
-// What is printed.
+//! What is printed.
 use crate::text::text_of;
 use crate::words::Trouble;
 use io_edge::Failed;

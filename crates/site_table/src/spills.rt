@@ -1,4 +1,4 @@
-// The disks for workers' blocks of any site.
+//! The disks for workers' blocks of any site.
 use crate::disk::{disk, look};
 use crate::say::{say, say_bytes};
 use crate::text::bytes_of;

@@ -1,4 +1,4 @@
-// Bytes as text: printed ASCII stands for itself, `|` for a newline, and `\` with two hexadecimal digits for any byte.
+//! Bytes as text: printed ASCII stands for itself, `|` for a newline, and `\` with two hexadecimal digits for any byte.
 ghost use Rattle.std.specs.Prelude.{◌<◌, IfOk};
 
 use crate::words::Trouble;

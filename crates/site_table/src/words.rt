@@ -1,4 +1,4 @@
-// The words of a line, which are taken from the left, and why a line isn't answered.
+//! The words of a line, which are taken from the left, and why a line isn't answered.
 ghost use Rattle.std.specs.Prelude.{◌≤◌, IfOk};
 
 use std::alloc::{AllocError, AllocFailed, Global};

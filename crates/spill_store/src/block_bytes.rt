@@ -1,4 +1,4 @@
-// Elements as bytes and bytes as elements.
+//! Elements as bytes and bytes as elements.
 ghost use Rattle.std.specs.Prelude.{◌≡◌, ◌%◌, All, FitsSigned, length, map, IfOk, OnOk};
 ghost use Rattle.std.specs.Int.{w64};
 ghost use Rattle.std.specs.List.{flat_map};

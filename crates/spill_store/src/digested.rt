@@ -1,4 +1,4 @@
-// Digests that are made outside of a store.
+//! Digests that are made outside of a store.
 ghost use Rattle.std.specs.Prelude.{◌≡◌, IfSome};
 
 use crate::spilled::Spilled;

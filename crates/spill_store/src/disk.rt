@@ -1,4 +1,4 @@
-// The disk of a store.
+//! The disk of a store.
 ghost use Rattle.std.specs.Prelude.{◌≡◌, IfOk, OnOk, None};
 ghost use Rattle.io_edge.specs.Cause.{HasCause};
 ghost use Rattle.io_edge.specs.Disk.{DiskView, HoldsAt, KeepsAll, KeepsOthers, ReadsAt};

@@ -1,4 +1,4 @@
-// What a look at the store gives.
+//! What a look at the store gives.
 
 use nd_shape::Block;
 use std::sync::Arc;

@@ -1,4 +1,4 @@
-// The blocks in memory, in the order of use.
+//! The blocks in memory, in the order of use.
 ghost use Rattle.std.specs.Prelude.{◌≡◌, ◌≤◌, ◌<◌, ◌+◌, ◌*◌, ◌↔◌, ◌∷◌, ◌++◌, []};
 ghost use Rattle.std.specs.Prelude.{nat_eq, option_map, unwrap_or, IfErr, IfOk, IfSome, OnErr, OnOk, MatchOption, IsTrue, None, Some};
 ghost use Rattle.std.specs.Map.{lookup, remove_entry};

@@ -1,4 +1,4 @@
-// Why no further block goes to the disk.
+//! Why no further block goes to the disk.
 
 #[derive(Clone, Copy)]
 pub enum Rest {

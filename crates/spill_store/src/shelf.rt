@@ -1,4 +1,4 @@
-// A disk, and the blocks that it has taken and that are nowhere else.
+//! A disk, and the blocks that it has taken and that are nowhere else.
 ghost use Rattle.std.specs.Prelude.{◌≡◌, ◌≤◌, ◌↔◌, nat_eq, [], is_some, IfErr, IfOk, IfSome, None, Some, IsTrue, false};
 ghost use Rattle.std.specs.Map.{lookup};
 ghost use Rattle.io_edge.specs.Disk.{HoldsAt, KeepsOthers};

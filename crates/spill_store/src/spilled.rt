@@ -1,4 +1,4 @@
-// What is kept in memory of a block that is on the disk.
+//! What is kept in memory of a block that is on the disk.
 ghost use Rattle.std.specs.Prelude.{◌≡◌, ◌*◌, All, FitsSigned, length, IfOk, IfSome, MatchOption};
 ghost use Rattle.std.specs.Int.{w64};
 ghost use Rattle.nd_shape.specs.Shape.{elements};

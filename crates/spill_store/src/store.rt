@@ -1,4 +1,4 @@
-// The store.
+//! The store.
 ghost use Rattle.std.specs.Prelude.{◌≡◌, ℕ, nat_eq, is_some, IfErr, IfOk, IfSome, IsTrue, OnErr, OnOk, None, false};
 ghost use Rattle.std.specs.Map.{lookup};
 ghost use Rattle.std.specs.Option.{option_map};

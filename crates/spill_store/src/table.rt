@@ -1,4 +1,4 @@
-// Tables in the order of use.
+//! Tables in the order of use.
 ghost use Rattle.std.specs.Prelude.{◌≡◌, ◌∷◌, ◌++◌, [], nat_eq, length, option_copied, IfErr, IfOk, IfSome, OnErr, OnOk, MatchOption, Some, None};
 ghost use Rattle.std.specs.List.{IsDistinct};
 ghost use Rattle.std.specs.Map.{keys_of, lookup, remove_entry};

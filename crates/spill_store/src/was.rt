@@ -1,5 +1,5 @@
-// What the elements of a block were. Only clauses read it: it takes no bytes, and its making does nothing when the program
-// runs.
+//! What the elements of a block were. Only clauses read it: it takes no bytes, and its making does nothing when the program
+//! runs.
 ghost use Rattle.std.specs.Prelude.{◌≡◌, List, ℤ};
 ghost use Rattle.std.specs.Borrow.{ftrue};
 

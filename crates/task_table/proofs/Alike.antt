@@ -19,6 +19,7 @@ pub record IsAlike (f g : Facts) : Type 0 where
   pub wanted : wanted g ≡ wanted f
   pub held : held g ≡ held f
   pub bad : g.bad ≡ f.bad
+  pub losses : g.losses ≡ f.losses
   pub on : g.on ≡ f.on
 
 known_alike : (f g : Facts) → IsAlike f g → known g ≡ known f
@@ -54,6 +55,7 @@ same_alike f g k a h w = record {
   fed = fed_alike f g a k;
   waiters = waiters_alike f g a k;
   bad = ap (λ (p : ℕ → Bool). p k) a.bad;
+  losses = ap (λ (p : ℕ → ℕ). p k) a.losses;
   on = ap (λ (p : ℕ → Option (ℕ × ℕ)). p k) a.on;
   has = h;
   want = w;
@@ -143,6 +145,7 @@ same_levels f g l m k key s t n e d h q = record {
   fed = not_same (fed g k) (fed f k) (sym h.fed ∙ ap (nat_lt 0) q.lacks ∙ d.fed);
   waiters = waited;
   bad = n.bad k e;
+  losses = n.losses k e;
   on = n.on k e;
   has = λ w. n.has w k e;
   want = λ c. n.want c k e;

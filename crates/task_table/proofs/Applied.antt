@@ -14,7 +14,7 @@ use Rattle.task_table.specs.Changes.{with_change, changed_key, Fits}
 use Rattle.task_table.specs.Tasks.{Tasks, SameAt, IsTouched, IsRemembered}
 use Rattle.task_table.specs.Parts.{IsParts, IsNearly, IsFollowed}
 use Rattle.task_table.specs.declared.change.Change.{Change}
-use Rattle.task_table.specs.declared.change.Change.TheVariants.{Want, Unwant, Hold, Lose, Assign, Unassign, Steal, Unsteal, Fail, Forgive, Connect, Disconnect, Send, Fence, Finish}
+use Rattle.task_table.specs.declared.change.Change.TheVariants.{Want, Unwant, Hold, Lose, Assign, Unassign, Steal, Unsteal, Fail, Count, Forgive, Connect, Disconnect, Send, Fence, Finish}
 use Rattle.task_table.specs.declared.parts.Parts.{Parts}
 use Rattle.task_table.proofs.Near.{IsNear, near_change, wanted_same, held_same, some_key, no_key}
 use Rattle.task_table.proofs.Alike.{IsAlike, same_alike, parts_alike, parts_near, same_levels}
@@ -25,13 +25,14 @@ pub record IsEqual (f g : Facts) : Type 0 where
   pub has : (w k : ℕ) → g.has w k ≡ f.has w k
   pub want : (c k : ℕ) → g.want c k ≡ f.want c k
 
-equal_fields : (f g : Facts) → g.setting ≡ f.setting → g.want ≡ f.want → g.has ≡ f.has → g.last_worker ≡ f.last_worker → g.bad ≡ f.bad → g.on ≡ f.on → IsEqual f g
-equal_fields f g s w h l b o = record {
+equal_fields : (f g : Facts) → g.setting ≡ f.setting → g.want ≡ f.want → g.has ≡ f.has → g.last_worker ≡ f.last_worker → g.bad ≡ f.bad → g.losses ≡ f.losses → g.on ≡ f.on → IsEqual f g
+equal_fields f g s w h l b n o = record {
   alike = record {
     setting = s;
     wanted = λ i k. wanted_same f g w s k i;
     held = λ i k. held_same f g h l k i;
     bad = b;
+    losses = n;
     on = o;
   };
   has = λ v k. ap (λ (p : ℕ → ℕ → Option ℕ). p v k) h;
@@ -64,6 +65,7 @@ equal_joined f s threads = record {
     wanted = λ i k. wanted_same f (joined f threads) refl refl k i;
     held = λ i k. held_joined f s threads k i;
     bad = refl;
+    losses = refl;
     on = refl;
   };
   has = λ v k. refl;
@@ -77,15 +79,16 @@ equal_change f s (Hold w k) e = some_key k e
 equal_change f s (Lose w k) e = some_key k e
 equal_change f s (Assign k w) e = some_key k e
 equal_change f s (Unassign k) e = some_key k e
-equal_change f s (Steal k thief refused) e = equal_fields f (with_change f (Steal k thief refused)) refl refl refl refl refl refl
-equal_change f s (Unsteal k) e = equal_fields f (with_change f (Unsteal k)) refl refl refl refl refl refl
+equal_change f s (Steal k thief refused) e = equal_fields f (with_change f (Steal k thief refused)) refl refl refl refl refl refl refl
+equal_change f s (Unsteal k) e = equal_fields f (with_change f (Unsteal k)) refl refl refl refl refl refl refl
 equal_change f s (Fail k) e = some_key k e
+equal_change f s (Count k) e = some_key k e
 equal_change f s (Forgive k) e = some_key k e
 equal_change f s (Connect threads) e = equal_joined f s threads
-equal_change f s (Disconnect w) e = equal_fields f (with_change f (Disconnect w)) refl refl refl refl refl refl
-equal_change f s (Send w) e = equal_fields f (with_change f (Send w)) refl refl refl refl refl refl
-equal_change f s (Fence w k) e = equal_fields f (with_change f (Fence w k)) refl refl refl refl refl refl
-equal_change f s Finish e = equal_fields f (with_change f Finish) refl refl refl refl refl refl
+equal_change f s (Disconnect w) e = equal_fields f (with_change f (Disconnect w)) refl refl refl refl refl refl refl
+equal_change f s (Send w) e = equal_fields f (with_change f (Send w)) refl refl refl refl refl refl refl
+equal_change f s (Fence w k) e = equal_fields f (with_change f (Fence w k)) refl refl refl refl refl refl refl
+equal_change f s Finish e = equal_fields f (with_change f Finish) refl refl refl refl refl refl refl
 
 -- what following requires
 pub near_after : (f g : Facts) (c : Change) (p : Parts) (key : ℕ) → g ≡ with_change f c → IsParts f p → changed_key c ≡ Some key → IsNearly g p key
@@ -150,6 +153,7 @@ key_low f rows (Unassign k) q h e = subst (λ (x : ℕ). x < keys f) (same_Some 
 key_low f rows (Steal k thief refused) q h e = no_key q e
 key_low f rows (Unsteal k) q h e = no_key q e
 key_low f rows (Fail k) q h e = subst (λ (x : ℕ). x < keys f) (same_Some k q e) h
+key_low f rows (Count k) q h e = subst (λ (x : ℕ). x < keys f) (same_Some k q e) h.key
 key_low f rows (Forgive k) q h e = subst (λ (x : ℕ). x < keys f) (same_Some k q e) h
 key_low f rows (Connect threads) q h e = no_key q e
 key_low f rows (Disconnect w) q h e = no_key q e
@@ -169,6 +173,7 @@ same_keys f (Unassign k) = refl
 same_keys f (Steal k thief refused) = refl
 same_keys f (Unsteal k) = refl
 same_keys f (Fail k) = refl
+same_keys f (Count k) = refl
 same_keys f (Forgive k) = refl
 same_keys f (Connect threads) = refl
 same_keys f (Disconnect w) = refl

@@ -12,7 +12,7 @@ use Rattle.key_sets.specs.Sets.{has, room}
 use Rattle.task_table.specs.Changes.{with_change, changed_key, changed_worker}
 use Rattle.task_table.specs.Lists.{IsListed, IsListedBut, IsSetOf, AreRows, in_row, names, is_at, is_placed, is_shared}
 use Rattle.task_table.specs.declared.change.Change.{Change}
-use Rattle.task_table.specs.declared.change.Change.TheVariants.{Want, Unwant, Hold, Lose, Assign, Unassign, Steal, Unsteal, Fail, Forgive, Connect, Disconnect, Send, Fence, Finish}
+use Rattle.task_table.specs.declared.change.Change.TheVariants.{Want, Unwant, Hold, Lose, Assign, Unassign, Steal, Unsteal, Fail, Count, Forgive, Connect, Disconnect, Send, Fence, Finish}
 use Rattle.task_table.specs.declared.lists.Lists.{Lists}
 use Rattle.task_table.proofs.Near.{IsNear, near_change, some_key, no_key}
 use Rattle.task_table.proofs.Applied.{IsEqual, equal_change}
@@ -33,6 +33,7 @@ same_last f (Unassign k) key e = refl
 same_last f (Steal k thief refused) key e = refl
 same_last f (Unsteal k) key e = refl
 same_last f (Fail k) key e = refl
+same_last f (Count k) key e = refl
 same_last f (Forgive k) key e = refl
 same_last f (Connect threads) key e = no_key key e
 same_last f (Disconnect w) key e = refl
@@ -55,6 +56,7 @@ count_rest f s (Unassign k) e j = some_key k e
 count_rest f s (Steal k thief refused) e j = refl
 count_rest f s (Unsteal k) e j = refl
 count_rest f s (Fail k) e j = some_key k e
+count_rest f s (Count k) e j = some_key k e
 count_rest f s (Forgive k) e j = some_key k e
 count_rest f s (Connect threads) e j = holders_joined f threads j s
 count_rest f s (Disconnect w) e j = refl
@@ -81,6 +83,7 @@ at_key f (Unassign k) key w e n o = ap (λ t. holds f w key || t) (moved_off (eq
 at_key f (Steal k thief refused) key w e n o = no_key key e
 at_key f (Unsteal k) key w e n o = no_key key e
 at_key f (Fail k) key w e n o = refl
+at_key f (Count k) key w e n o = refl
 at_key f (Forgive k) key w e n o = refl
 at_key f (Connect threads) key w e n o = no_key key e
 at_key f (Disconnect u) key w e n o = no_key key e

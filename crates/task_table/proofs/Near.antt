@@ -7,7 +7,7 @@ use Rattle.cluster_rules.specs.Functions.{put, put_pair, from_one}
 use Rattle.cluster_rules.specs.Sched.{Facts, held, wanted}
 use Rattle.task_table.specs.Changes.{with_change, changed_key}
 use Rattle.task_table.specs.declared.change.Change.{Change}
-use Rattle.task_table.specs.declared.change.Change.TheVariants.{Want, Unwant, Hold, Lose, Assign, Unassign, Steal, Unsteal, Fail, Forgive, Connect, Disconnect, Send, Fence, Finish}
+use Rattle.task_table.specs.declared.change.Change.TheVariants.{Want, Unwant, Hold, Lose, Assign, Unassign, Steal, Unsteal, Fail, Count, Forgive, Connect, Disconnect, Send, Fence, Finish}
 
 -- what derived facts rest on is the same but for one key
 pub record IsNear (f g : Facts) (key : ℕ) : Type 0 where
@@ -15,6 +15,7 @@ pub record IsNear (f g : Facts) (key : ℕ) : Type 0 where
   pub wanted : (k : ℕ) → eqb k key ≡ false → wanted g k ≡ wanted f k
   pub held : (k : ℕ) → eqb k key ≡ false → held g k ≡ held f k
   pub bad : (k : ℕ) → eqb k key ≡ false → g.bad k ≡ f.bad k
+  pub losses : (k : ℕ) → eqb k key ≡ false → g.losses k ≡ f.losses k
   pub on : (k : ℕ) → eqb k key ≡ false → g.on k ≡ f.on k
   pub has : (w k : ℕ) → eqb k key ≡ false → g.has w k ≡ f.has w k
   pub want : (c k : ℕ) → eqb k key ≡ false → g.want c k ≡ f.want c k
@@ -48,6 +49,7 @@ near_want f c key b = record {
   wanted = λ k e. wanted_by f (put_pair f.want c key b) k (λ d. pair_other f.want c key d k b e);
   held = λ k e. held_same f (record f { want = put_pair f.want c key b }) refl refl k;
   bad = λ k e. refl;
+  losses = λ k e. refl;
   on = λ k e. refl;
   has = λ w k e. refl;
   want = λ d k e. pair_other f.want c key d k b e;
@@ -59,6 +61,7 @@ near_has f w key n x = record {
   wanted = λ k e. wanted_same f (record f { has = put_pair f.has w key x; counter = n }) refl refl k;
   held = λ k e. held_same (record f { has = put_pair f.has w key x }) (record f { has = put_pair f.has w key x; counter = n }) refl refl k ∙ held_by f (put_pair f.has w key x) k (λ v. pair_other f.has w key v k x e);
   bad = λ k e. refl;
+  losses = λ k e. refl;
   on = λ k e. refl;
   has = λ v k e. pair_other f.has w key v k x e;
   want = λ c k e. refl;
@@ -70,6 +73,7 @@ near_on f key n x s = record {
   wanted = λ k e. wanted_same f (record f { on = put f.on key x; steal = s; counter = n }) refl refl k;
   held = λ k e. held_same f (record f { on = put f.on key x; steal = s; counter = n }) refl refl k;
   bad = λ k e. refl;
+  losses = λ k e. refl;
   on = λ k e. put_other f.on key k x e;
   has = λ w k e. refl;
   want = λ c k e. refl;
@@ -81,6 +85,31 @@ near_bad f key b = record {
   wanted = λ k e. wanted_same f (record f { bad = put f.bad key b }) refl refl k;
   held = λ k e. held_same f (record f { bad = put f.bad key b }) refl refl k;
   bad = λ k e. put_other f.bad key k b e;
+  losses = λ k e. refl;
+  on = λ k e. refl;
+  has = λ w k e. refl;
+  want = λ c k e. refl;
+}
+
+near_losses : (f : Facts) (key n : ℕ) → IsNear f (record f { losses = put f.losses key n }) key
+near_losses f key n = record {
+  setting = refl;
+  wanted = λ k e. wanted_same f (record f { losses = put f.losses key n }) refl refl k;
+  held = λ k e. held_same f (record f { losses = put f.losses key n }) refl refl k;
+  bad = λ k e. refl;
+  losses = λ k e. put_other f.losses key k n e;
+  on = λ k e. refl;
+  has = λ w k e. refl;
+  want = λ c k e. refl;
+}
+
+near_forgiven : (f : Facts) (key : ℕ) → IsNear f (record f { bad = put f.bad key false; losses = put f.losses key 0 }) key
+near_forgiven f key = record {
+  setting = refl;
+  wanted = λ k e. wanted_same f (record f { bad = put f.bad key false; losses = put f.losses key 0 }) refl refl k;
+  held = λ k e. held_same f (record f { bad = put f.bad key false; losses = put f.losses key 0 }) refl refl k;
+  bad = λ k e. put_other f.bad key k false e;
+  losses = λ k e. put_other f.losses key k 0 e;
   on = λ k e. refl;
   has = λ w k e. refl;
   want = λ c k e. refl;
@@ -107,7 +136,8 @@ near_change f (Unassign k) key e = subst (λ (q : ℕ). IsNear f (with_change f 
 near_change f (Steal k thief refused) key e = no_key key e
 near_change f (Unsteal k) key e = no_key key e
 near_change f (Fail k) key e = subst (λ (q : ℕ). IsNear f (with_change f (Fail k)) q) (same_Some k key e) (near_bad f k true)
-near_change f (Forgive k) key e = subst (λ (q : ℕ). IsNear f (with_change f (Forgive k)) q) (same_Some k key e) (near_bad f k false)
+near_change f (Count k) key e = subst (λ (q : ℕ). IsNear f (with_change f (Count k)) q) (same_Some k key e) (near_losses f k (f.losses k + 1))
+near_change f (Forgive k) key e = subst (λ (q : ℕ). IsNear f (with_change f (Forgive k)) q) (same_Some k key e) (near_forgiven f k)
 near_change f (Connect threads) key e = no_key key e
 near_change f (Disconnect w) key e = no_key key e
 near_change f (Send w) key e = no_key key e

@@ -4,7 +4,7 @@ use Rattle.cluster_rules.specs.Functions.{put, put_pair}
 use Rattle.cluster_rules.specs.Sched.{Facts, keys, connected, workers, holds, is_on}
 use Rattle.cluster_rules.specs.SchedTable.{joined}
 use Rattle.task_table.specs.declared.change.Change.{Change}
-use Rattle.task_table.specs.declared.change.Change.TheVariants.{Want, Unwant, Hold, Lose, Assign, Unassign, Steal, Unsteal, Fail, Forgive, Connect, Disconnect, Send, Fence, Finish}
+use Rattle.task_table.specs.declared.change.Change.TheVariants.{Want, Unwant, Hold, Lose, Assign, Unassign, Steal, Unsteal, Fail, Count, Forgive, Connect, Disconnect, Send, Fence, Finish}
 
 -- the facts after the change. A copy and an attempt take the next number, which is given once
 abbrev pub with_change : Facts → Change → Facts
@@ -17,7 +17,8 @@ with_change f (Unassign k) = record f { on = put f.on k None; steal = put f.stea
 with_change f (Steal k thief refused) = record f { steal = put f.steal k (Some (thief, refused)) }
 with_change f (Unsteal k) = record f { steal = put f.steal k None }
 with_change f (Fail k) = record f { bad = put f.bad k true }
-with_change f (Forgive k) = record f { bad = put f.bad k false }
+with_change f (Count k) = record f { losses = put f.losses k (f.losses k + 1) }
+with_change f (Forgive k) = record f { bad = put f.bad k false; losses = put f.losses k 0 }
 with_change f (Connect threads) = joined f threads
 with_change f (Disconnect w) = record f { threads = put f.threads w None }
 with_change f (Send w) = record f { sent = put f.sent w (f.sent w + 1) }
@@ -45,6 +46,11 @@ pub record IsNumbered (f : Facts) (w k : ℕ) : Type 0 where
 pub record IsGiven (f : Facts) (k : ℕ) : Type 0 where
   pub key : k < keys f
   pub on : is_some (f.on k) ≡ true
+
+-- one more loss of the key may be counted
+pub record IsCountable (f : Facts) (k : ℕ) : Type 0 where
+  pub key : k < keys f
+  pub room : f.losses k < 2 ^ 31
 
 -- one more worker may join, with so many threads, where rows for so many workers are there
 pub record IsJoining (f : Facts) (rows threads : ℕ) : Type 0 where
@@ -81,6 +87,7 @@ Fits f rows (Unassign k) = k < keys f
 Fits f rows (Steal k thief refused) = IsGiven f k
 Fits f rows (Unsteal k) = IsGiven f k
 Fits f rows (Fail k) = k < keys f
+Fits f rows (Count k) = IsCountable f k
 Fits f rows (Forgive k) = k < keys f
 Fits f rows (Connect threads) = IsJoining f rows threads
 Fits f rows (Disconnect w) = IsBare f w
@@ -99,6 +106,7 @@ changed_key (Unassign k) = Some k
 changed_key (Steal k thief refused) = None
 changed_key (Unsteal k) = None
 changed_key (Fail k) = Some k
+changed_key (Count k) = Some k
 changed_key (Forgive k) = Some k
 changed_key (Connect threads) = None
 changed_key (Disconnect w) = None
@@ -117,6 +125,7 @@ changed_worker (Unassign k) = None
 changed_worker (Steal k thief refused) = None
 changed_worker (Unsteal k) = None
 changed_worker (Fail k) = None
+changed_worker (Count k) = None
 changed_worker (Forgive k) = None
 changed_worker (Connect threads) = None
 changed_worker (Disconnect w) = None

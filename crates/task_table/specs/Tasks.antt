@@ -41,6 +41,7 @@ pub record SameAt (f g : Facts) (k : ℕ) : Type 0 where
   pub fed : fed g k ≡ fed f k
   pub waiters : waiters g k ≡ waiters f k
   pub bad : g.bad k ≡ f.bad k
+  pub losses : g.losses k ≡ f.losses k
   pub on : g.on k ≡ f.on k
   pub has : (w : ℕ) → g.has w k ≡ f.has w k
   pub want : (c : ℕ) → g.want c k ≡ f.want c k

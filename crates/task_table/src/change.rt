@@ -26,7 +26,9 @@ pub enum Change {
     Unsteal { key: u32 },
     /// The key has an error of its own.
     Fail { key: u32 },
-    /// The key has no error of its own.
+    /// The key has lost its worker once more.
+    Count { key: u32 },
+    /// The key has no error of its own and no losses.
     Forgive { key: u32 },
     /// The next number is connected, with this many threads.
     Connect { threads: u32 },
@@ -59,7 +61,8 @@ pub fn put(table: &mut FactTable, change: Change)
         } => table.mark_steal(key, Some((thief, refused))),
         Change::Unsteal { key } => table.mark_steal(key, None),
         Change::Fail { key } => table.set_bad(key, true),
-        Change::Forgive { key } => table.set_bad(key, false),
+        Change::Count { key } => table.count_loss(key),
+        Change::Forgive { key } => table.forgive(key),
         Change::Connect { threads } => table.join(threads),
         Change::Disconnect { worker } => table.disconnect(worker),
         Change::Send { worker } => table.count_sent(worker),
@@ -82,6 +85,7 @@ pub fn key_of(change: Change) -> Option<u32>
         Change::Steal { .. } => None,
         Change::Unsteal { .. } => None,
         Change::Fail { key } => Some(key),
+        Change::Count { key } => Some(key),
         Change::Forgive { key } => Some(key),
         Change::Connect { .. } => None,
         Change::Disconnect { .. } => None,
@@ -105,6 +109,7 @@ pub fn worker_of(change: Change) -> Option<u32>
         Change::Steal { .. } => None,
         Change::Unsteal { .. } => None,
         Change::Fail { .. } => None,
+        Change::Count { .. } => None,
         Change::Forgive { .. } => None,
         Change::Connect { .. } => None,
         Change::Disconnect { .. } => None,

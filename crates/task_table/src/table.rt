@@ -53,17 +53,18 @@ impl TaskTable {
         shape: GraphShape,
         clients: u32,
         saturation: u32,
+        allowed: Option<u32>,
     ) -> Result<TaskTable, AllocError>
         requires clients { clients ≤ 16 }
         requires saturation { (1 ≤ saturation) × (saturation ≤ 1000) }
-        ensures facts { IfOk result (λ t. facts t ≡ sched_opening (record { shape = shape; clients = clients; saturation = saturation; allowed = None })) }
+        ensures facts { IfOk result (λ t. facts t ≡ sched_opening (record { shape = shape; clients = clients; saturation = saturation; allowed = allowed })) }
         ensures touched { IfOk result (λ t. (k : ℕ) → has t.touched k ≡ false) }
     {
         shape.sound();
         let lists = Lists::new(alloc, shape.keys())?;
         let held_before = KeySet::new(alloc, shape.keys())?;
         let erred_before = KeySet::new(alloc, shape.keys())?;
-        let table = FactTable::new(alloc, shape, clients, saturation)?;
+        let table = FactTable::new(alloc, shape, clients, saturation, allowed)?;
         let graph = table.shape();
         let mut parts = Parts::new(alloc, graph)?;
         begin(&table, &mut parts);

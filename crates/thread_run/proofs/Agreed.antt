@@ -21,7 +21,7 @@ use Rattle.cluster_msgs.specs.declared.events.Asker.{Asker}
 use Rattle.cluster_msgs.specs.declared.events.Asker.TheVariants.{Worker, Client}
 use Rattle.cluster_msgs.specs.declared.events.Entry.{Entry}
 use Rattle.cluster_msgs.specs.declared.events.Event.{Event}
-use Rattle.cluster_msgs.specs.declared.events.Event.TheVariants.{Want, Release, Join, Lose, SeeLoss, Suspect, DeliverDown, DeliverUp, DeliverToClient, DeliverFromClient, Start, Finish, SendGather, ServeGather, ArriveGather, FailGather, Balance, Evict, Spill, LoseSpilled}
+use Rattle.cluster_msgs.specs.declared.events.Event.TheVariants.{Want, Release, Join, Lose, SeeLoss, Suspect, DeliverDown, DeliverUp, DeliverToClient, DeliverFromClient, Start, Finish, SendGather, ServeGather, ArriveGather, FailGather, Balance, Evict, Replicate, Spill, LoseSpilled}
 use Rattle.cluster_msgs.specs.declared.events.History.{History}
 use Rattle.cluster_msgs.specs.declared.messages.Message.{Message}
 use Rattle.cluster_msgs.specs.declared.messages.Message.TheVariants as message
@@ -71,6 +71,7 @@ sched_apart f (Finish i k) m o says = refl
 sched_apart f (ServeGather p a n) m o says = refl
 sched_apart f Balance m o says = refl
 sched_apart f Evict m o says = refl
+sched_apart f (Replicate k i) m o says = refl
 sched_apart f (Spill i k) m o says = refl
 sched_apart f (LoseSpilled i k) m o says = refl
 
@@ -106,6 +107,7 @@ worker_apart id w (Finish i k) m o says = refl
 worker_apart id w (ServeGather p a n) m o says = refl
 worker_apart id w Balance m o says = refl
 worker_apart id w Evict m o says = refl
+worker_apart id w (Replicate k i) m o says = refl
 worker_apart id w (Spill i k) m o says = refl
 worker_apart id w (LoseSpilled i k) m o says = refl
 
@@ -157,6 +159,7 @@ client_says f (Finish i k) m o says = absurd says
 client_says f (ServeGather p a n) m o says = absurd says
 client_says f Balance m o says = absurd says
 client_says f Evict m o says = absurd says
+client_says f (Replicate k i) m o says = absurd says
 client_says f (Spill i k) m o says = absurd says
 client_says f (LoseSpilled i k) m o says = absurd says
 
@@ -185,6 +188,7 @@ releases f k (Finish i q) m o says l = absurd (false≢true l)
 releases f k (ServeGather p a n) m o says l = absurd (false≢true l)
 releases f k Balance m o says l = absurd (false≢true l)
 releases f k Evict m o says l = absurd (false≢true l)
+releases f k (Replicate q i) m o says l = absurd (false≢true l)
 releases f k (Spill i q) m o says l = absurd (false≢true l)
 releases f k (LoseSpilled i q) m o says l = absurd (false≢true l)
 
@@ -291,23 +295,23 @@ module _ (l : LabelFacts Array) (graph : Shape) (plan : RunPlan) (wanted : List 
       ∙ of-client l _ _ h.client.entries client_replays)
       (rising l h.client.entries run.are.client.ascending)
 
-  gets_each : IsLegalJournal (audited graph plan.saturation) journal → (k : ℕ) → IsGot run.last.client h.client.entries (is_some h.client.cut) k → Gets (audited graph plan.saturation) (events_of journal) 1 k
+  gets_each : IsLegalJournal (audited graph plan.saturation plan.allowed) journal → (k : ℕ) → IsGot run.last.client h.client.entries (is_some h.client.cut) k → Gets (audited graph plan.saturation plan.allowed) (events_of journal) 1 k
   gets_each legal k got =
       let g = got_after l (new_client graph) run.last.client h.client.entries k client_replays (subst (λ c. IsGot run.last.client h.client.entries (is_some c) k) whole.client got) in
-      client_got (audited graph plan.saturation) journal g.first g.rest 1 k legal (its_entries ∙ g.whole) g.got
+      client_got (audited graph plan.saturation plan.allowed) journal g.first g.rest 1 k legal (its_entries ∙ g.whole) g.got
 
-  legal_run : IsLegalJournal (audited graph plan.saturation) journal → IsLegalRun graph plan.saturation wanted journal
+  legal_run : IsLegalJournal (audited graph plan.saturation plan.allowed) journal → IsLegalRun graph plan.saturation plan.allowed wanted journal
   legal_run legal = record { legal = legal; got = All-weaker _ _ (λ k g. gets_each legal k g) wanted run.got }
 
 -- ## What is told of a run
 
 module _ (l : LabelFacts Array) (graph : Shape) (plan : RunPlan) (wanted : List ℕ) (h : Histories) (run : IsServedRun l graph plan wanted h) where
-  verdict_on : (journal : List Entry) (v : Verdict) → IsMerge (entries_of h) journal → IsVerdictOf (audited graph plan.saturation) h journal v → IsVerdictOn l graph plan wanted h journal v
+  verdict_on : (journal : List Entry) (v : Verdict) → IsMerge (entries_of h) journal → IsVerdictOf (audited graph plan.saturation plan.allowed) h journal v → IsVerdictOn l graph plan wanted h journal v
   verdict_on journal Agrees merged v = (v.0, legal_run l graph plan wanted h run v.0 journal merged v.1)
   verdict_on journal (Differs stamp) merged v = (v.0, run, v.1)
   verdict_on journal NotComplete merged v = (run, v)
 
-pub told_run : (l : LabelFacts Array) (graph : Shape) (plan : RunPlan) (wanted : List ℕ) (h : Histories) (t : Told) → IsServedRun l graph plan wanted h → IsToldOf graph plan.saturation h t → IsToldOfRun l graph plan wanted t
+pub told_run : (l : LabelFacts Array) (graph : Shape) (plan : RunPlan) (wanted : List ℕ) (h : Histories) (t : Told) → IsServedRun l graph plan wanted h → IsToldOf graph plan.saturation plan.allowed h t → IsToldOfRun l graph plan wanted t
 told_run l graph plan wanted h t run told = record {
   histories = h;
   journal = told.journal;

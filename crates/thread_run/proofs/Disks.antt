@@ -1,5 +1,5 @@
 -- The disks of a run's workers.
-use Rattle.std.proofs.Common.{◌≡◌, refl, sym, ◌∙◌, subst, Bool, Option, Some, None}
+use Rattle.std.proofs.Common.{◌≡◌, ℕ, refl, sym, ◌∙◌, subst, Bool, Option, Some, None}
 use Rattle.std.specs.Prelude.{IfSome, IsTrue}
 use Rattle.std.proofs.lemmas.Bool.{false≢true}
 use Rattle.small_facts.proofs.Options.{if_some_weaker}
@@ -32,9 +32,9 @@ spills_then old mid new a b = record {
 -- ## New disks
 
 -- of a block of a run it matters what its shape is, and where the run is told the site tells, and so its disks do
-pub disk-for : {J : Type 0} (picked : Option J) (inside : J → Job) (named : Named) (told tells : Bool) → (IsTrue told → IsTrue tells) → IsDiskFor (facts_of picked inside named told) (fresh_disk tells)
-disk-for None inside named told tells t = record { shape = λ a b e. e; told = λ h. absurd (false≢true h) }
-disk-for (Some job) inside named told tells t = record { shape = λ a b e. e; told = t }
+pub disk-for : {J : Type 0} (picked : Option J) (inside : J → Job) (named : Named) (told tells : Bool) (allowed : Option ℕ) → (IsTrue told → IsTrue tells) → IsDiskFor (facts_of picked inside named told allowed) (fresh_disk tells)
+disk-for None inside named told tells allowed t = record { shape = λ a b e. e; told = λ h. absurd (false≢true h) }
+disk-for (Some job) inside named told tells allowed t = record { shape = λ a b e. e; told = t }
 
 -- a disk that was just made, if one was
 pub made-for : {D : Type 0} (facts : LabelFacts Array) (v : DiskView) (view : D → DiskView) (disk : Option D) → IsDiskFor facts v → IfSome disk (λ d. view d ≡ v) → IfSome disk (λ d. IsDiskFor facts (view d))

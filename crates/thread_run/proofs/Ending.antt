@@ -12,7 +12,7 @@ use Rattle.npy_codec.specs.declared.head.Head.{Head}
 use Rattle.plain_eval.specs.Eval.{held_in}
 use Rattle.command_words.specs.declared.run.RunWords.{RunWords}
 use Rattle.job_run.specs.declared.ends.Ended.{Ended}
-use Rattle.job_run.specs.declared.ends.Ended.TheVariants.{Done, Limit, File, Zero, ReadFault, WriteFault, OutOfMemory}
+use Rattle.job_run.specs.declared.ends.Ended.TheVariants.{Done, Limit, File, Zero, Killed, ReadFault, WriteFault, OutOfMemory}
 use Rattle.job_run.specs.Inputs.{told_all}
 use Rattle.job_run.specs.Lowering.{LowerCause}
 use Rattle.job_run.specs.Part.{AreLeft, AreWhole, IsNoneOf, RaisedAtMost}
@@ -28,11 +28,13 @@ use Rattle.job_run.proofs.Running.{HaveAccepted, left_before, lowering_runs, mos
 use Rattle.thread_run.specs.Counts.{RaisedBetween, feeds, repeated}
 use Rattle.thread_run.specs.Ends.{Cause, HasValues, Looked, Opened, Prints, PrintsRun, IsOutgrownRun, LeavesAs, RunsByThreads, Saves, lines_of, openings}
 use Rattle.thread_run.specs.Feeding.{is_told}
+use Rattle.thread_run.specs.Losses.{losses_by}
 use Rattle.thread_run.specs.Reports.{IsOutgrownBy, IsToldBy, IsToldRun, label}
 use Rattle.thread_run.specs.declared.ends.ThreadEnded.{ThreadEnded}
 use Rattle.thread_run.specs.declared.ends.ThreadEnded.TheVariants.{Events, Ran}
 use Rattle.thread_run.specs.declared.verdict.Told.{Told}
 use Rattle.thread_run.specs.Serving.{ServesAll, ServesFiles, ServesPart}
+use Rattle.thread_run.proofs.Serves.{kill-as}
 
 -- ## Counts
 
@@ -62,7 +64,7 @@ ran-ends p w old new end leaves = record { leaves = leaves; events = λ is. absu
 -- ## Before the inputs are accepted
 
 -- an end at which a run leaves what any other leaves, with the inputs opened at most once
-ran : (p : Plan) (w : RunWords) (old new : View) (end : Ended) → RunsPlan p old new end → new.files.held ≡ old.files.held → new.files.created ≡ old.files.created → Cause p old new end → Saves p old.files new.files end →
+ran : (p : Plan) (w : RunWords) (old new : View) (end : Ended) → RunsPlan p old new end → new.files.held ≡ old.files.held → new.files.created ≡ old.files.created → Cause p w old new end → Saves p old.files new.files end →
     Opened p.inputs (openings p w) old.files.opened new.files.opened end → Created (names_saved p) old.files.created new.files.created end → Prints p w old new end → LeavesAs p w old new end
 ran p w old new end r held made cause saves opened created prints = record {
   cause = cause;
@@ -84,6 +86,7 @@ lowering-ends p w v Done cause = absurd cause
 lowering-ends p w v (Limit quantity) cause = let r = lowering_runs p v (Limit quantity) cause in ran p w v v (Limit quantity) r refl refl r.cause r.saves r.opened r.created r.prints
 lowering-ends p w v (File place error) cause = absurd cause
 lowering-ends p w v (Zero node block) cause = absurd cause
+lowering-ends p w v (Killed key losses) cause = absurd cause
 lowering-ends p w v ReadFault cause = absurd cause
 lowering-ends p w v WriteFault cause = absurd cause
 lowering-ends p w v OutOfMemory cause =
@@ -98,6 +101,7 @@ reading-ends p w old new (File place error) small cause opens only =
     let r = reading_runs p old new (File place error) small cause opens only in
     ran p w old new (File place error) r opens.held opens.created r.cause r.saves r.opened r.created r.prints
 reading-ends p w old new (Zero node block) small cause opens only = absurd cause
+reading-ends p w old new (Killed key losses) small cause opens only = absurd cause
 reading-ends p w old new ReadFault small cause opens only =
     let r = reading_runs p old new ReadFault small cause opens only in
     ran p w old new ReadFault r opens.held opens.created r.cause (λ t. r.saves) (most-front p.inputs (repeated (feeds w) p.inputs) old.files.opened new.files.opened r.opened) r.created r.prints
@@ -140,7 +144,7 @@ follows-out p w old saved new only f =
       note_faults = only.note_faults ∙ f.note_faults;
     }
 
-ends : (p : Plan) (w : RunWords) (old new : View) (end : Ended) → Follows p w old new → Cause p old new end → Saves p old.files new.files end → Opened p.inputs (openings p w) old.files.opened new.files.opened end →
+ends : (p : Plan) (w : RunWords) (old new : View) (end : Ended) → Follows p w old new → Cause p w old new end → Saves p old.files new.files end → Opened p.inputs (openings p w) old.files.opened new.files.opened end →
     Created (names_saved p) old.files.created new.files.created end → Prints p w old new end → LeavesAs p w old new end
 ends p w old new end f cause saves opened created prints = record {
   cause = cause;
@@ -198,7 +202,7 @@ module _ (p : Plan) (w : RunWords) (old mid : View) (files : List Content) (head
 
   -- ### A core had taken all events
 
-  pub outgrown-run : IsOutgrownBy (label told (named_told files heads) (tasks_of p)) (shape_of (tasks_of p)) w → IsOutgrownRun p w old.files
+  pub outgrown-run : IsOutgrownBy (label told w.settings.allowed (named_told files heads) (tasks_of p)) (shape_of (tasks_of p)) w → IsOutgrownRun p w old.files
   outgrown-run by = record {
     small = a.small;
     inputs = a.fit;
@@ -212,7 +216,7 @@ module _ (p : Plan) (w : RunWords) (old mid : View) (files : List Content) (head
   -- ### Not all is saved
 
   pub stopped-ends : (new : View) (end : Ended) → ServesFiles p (feeds w) mid new → IsFitGiven p mid new →
-      ServesPart p (named_told files heads) (IsTrue told) (Rose mid.read_faults new.read_faults) (Rose mid.write_faults new.write_faults) mid.files new.files end → LeavesAs p w old new end
+      ServesPart p (losses_by w) (named_told files heads) (IsTrue told) (Rose mid.read_faults new.read_faults) (Rose mid.write_faults new.write_faults) mid.files new.files end → LeavesAs p w old new end
   stopped-ends new Done f given part = absurd part.cause
   stopped-ends new (Limit quantity) f given part = absurd part.cause
   stopped-ends new (File place error) f given part = absurd part.cause
@@ -221,6 +225,18 @@ module _ (p : Plan) (w : RunWords) (old mid : View) (files : List Content) (head
       ends p w old new (Zero node block) g (
         a.small,
         record { inputs = a.fit; needed = part.cause.0; zero_at = on-inputs (λ n. IsFaulty p n node block) told is part.cause.1 },
+        given_before old.gave mid.gave new.gave _ a.only.gave given,
+      ) (are-right new.files part.left) g.opened
+      (part.created ∙ ap (raised_by (names_saved p)) a.opens.created) (f.out ∙ a.only.out)
+  stopped-ends new (Killed key losses) f given part =
+      let g = follows new f in
+      ends p w old new (Killed key losses) g (
+        a.small,
+        record {
+          inputs = a.fit;
+          needed = λ t. part.cause.0 (is ∙ t);
+          kill = kill-as (losses_by w) _ _ losses (rose_before old.read_faults mid.read_faults new.read_faults a.later) part.cause.1;
+        },
         given_before old.gave mid.gave new.gave _ a.only.gave given,
       ) (are-right new.files part.left) g.opened
       (part.created ∙ ap (raised_by (names_saved p)) a.opens.created) (f.out ∙ a.only.out)
@@ -244,7 +260,7 @@ module _ (p : Plan) (w : RunWords) (old mid : View) (files : List Content) (head
     created-all = all.created ∙ ap (raised_by (names_saved p)) a.opens.created
 
     -- these are its lines, with what is told of the run
-    module _ (told-then : Told) (asked : is_some told-then.report ≡ w.report) (by : IsToldBy (label told (named_told files heads) (tasks_of p)) (shape_of (tasks_of p)) w (wanted_of p) told-then) where
+    module _ (told-then : Told) (asked : is_some told-then.report ≡ w.report) (by : IsToldBy (label told w.settings.allowed (named_told files heads) (tasks_of p)) (shape_of (tasks_of p)) w (wanted_of p) told-then) where
       of-run : IsToldRun p w old.files told-then
       of-run = record { named = named_told files heads; told = told; told_is = is; held = on_named p old.files mid.files files heads (λ n. n ≡ named_told files heads) a.inputs (λ t. refl); run = by }
 

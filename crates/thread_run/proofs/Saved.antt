@@ -19,6 +19,7 @@ use Rattle.job_run.specs.Evaluating.{AreOpenFor}
 use Rattle.job_run.specs.Plan.{Plan, Saved, name_at, names_saved}
 use Rattle.job_run.specs.Values.{Named, tasks_of}
 use Rattle.job_run.specs.Wanted.{wanted_of}
+use Rattle.thread_run.specs.Losses.{Losses}
 use Rattle.thread_run.specs.Reports.{label}
 use Rattle.thread_run.specs.Saver.{IsLabelOf, Saves, SavesOn, had_in}
 use Rattle.thread_run.specs.Ends.{left_as}
@@ -30,16 +31,23 @@ use Rattle.thread_run.proofs.Serves.{LeavesFiles, both-ok, creates-all, ok-holds
 -- ## The label of a run
 
 -- what is said of a run of blocks, whose job is picked or isn't
-abbrev pub facts_of : {J : Type 0} → Option J → (J → Job) → Named → Bool → LabelFacts Array
-facts_of picked inside named told = run_facts (λ j. graph_of (inside j)) (λ j k blocks. made_by named (inside j) k blocks) (λ j k. dims_of (inside j) k) (λ (b : Array). b.shape) told picked
+abbrev pub facts_of : {J : Type 0} → Option J → (J → Job) → Named → Bool → Option ℕ → LabelFacts Array
+facts_of picked inside named told allowed =
+    run_facts (λ j. graph_of (inside j)) (λ j k blocks. made_by named (inside j) k blocks) (λ j k. dims_of (inside j) k) (λ (b : Array). b.shape) told allowed picked
 
 -- where a job of these tasks is picked
-pub facts-are : {J : Type 0} (picked : Option J) (job : J) (inside : J → Job) (named : Named) (told : Bool) (tasks : List Task) → picked ≡ Some job → (inside job).tasks ≡ tasks → facts_of picked inside named told ≡ label told named tasks
-facts-are picked job inside named told tasks is same = ap (λ o. facts_of o inside named told) is ∙ ap (label told named) same
+pub facts-are : {J : Type 0} (picked : Option J) (job : J) (inside : J → Job) (named : Named) (told : Bool) (allowed : Option ℕ) (tasks : List Task) → picked ≡ Some job → (inside job).tasks ≡ tasks →
+    facts_of picked inside named told allowed ≡ label told allowed named tasks
+facts-are picked job inside named told allowed tasks is same = ap (λ o. facts_of o inside named told allowed) is ∙ ap (label told allowed named) same
+
+-- and so many losses are allowed
+pub facts-allow : {J : Type 0} (picked : Option J) (job : J) (inside : J → Job) (named : Named) (told : Bool) (allowed most : Option ℕ) (tasks : List Task) → picked ≡ Some job → (inside job).tasks ≡ tasks → allowed ≡ most →
+    facts_of picked inside named told allowed ≡ label told most named tasks
+facts-allow picked job inside named told allowed most tasks is same few = facts-are picked job inside named told allowed tasks is same ∙ ap (λ o. label told o named tasks) few
 
 -- so it is a label of the plan's graph
-pub label-of : {J : Type 0} (p : Plan) (picked : Option J) (job : J) (inside : J → Job) (named : Named) (told : Bool) → picked ≡ Some job → (inside job).tasks ≡ tasks_of p → IsLabelOf p (facts_of picked inside named told)
-label-of p picked job inside named told is same = record { told = told; named = named; is = facts-are picked job inside named told (tasks_of p) is same }
+pub label-of : {J : Type 0} (p : Plan) (picked : Option J) (job : J) (inside : J → Job) (named : Named) (told : Bool) (allowed : Option ℕ) → picked ≡ Some job → (inside job).tasks ≡ tasks_of p → IsLabelOf p (facts_of picked inside named told allowed)
+label-of p picked job inside named told allowed is same = record { told = told; allowed = allowed; named = named; is = facts-are picked job inside named told allowed (tasks_of p) is same }
 
 -- how many keys the graph has
 pub keys-are : (p : Plan) (tasks : List Task) (graph : Shape) (many : ℕ) → tasks ≡ tasks_of p → graph ≡ shape_of tasks → many ≡ key_count graph → many ≡ length (tasks_of p)
@@ -69,20 +77,20 @@ module _ (p : Plan) (first last : Saves) (created_for : AreOpenFor p first.files
 
 -- ## At the end of the run
 
-module _ (p : Plan) (named : Named) (told : Bool) (first last : Saves) (old mid new : Files) (r : IsServed p named told first last old mid new) (created : mid.created ≡ raised_by (names_saved p) old.created) where
+module _ (p : Plan) (named : Named) (told : Bool) (allowed : Option ℕ) (first last : Saves) (old mid new : Files) (r : IsServed p named told allowed first last old mid new) (created : mid.created ≡ raised_by (names_saved p) old.created) where
   -- all was given and written
   pub all-served : {A B C E F G : Type 0} (keys : List ℕ) (end : Result A E) (given : Result B F) (written : Result C G) → keys ≡ wanted_of p → OnOk end (IsOk given) → OnOk end (IsOk written) → OnOk given (All (λ k. had_in last.had k ≡ true) keys) →
       OnOk written (last.fault ≡ None) → OnOk end (ServesAll p named (IsTrue told) old new)
   all-served keys end given written are gave wrote had sound =
       let H : List ℕ → Type 0 = λ ks. All (λ k. had_in last.had k ≡ true) ks in
-      both-ok end given written (ServesAll p named (IsTrue told) old new) gave wrote (λ g s. served-all p named told first last old mid new r (subst H are (ok-holds given (H keys) g had)) (ok-holds written (last.fault ≡ None) s sound) created)
+      both-ok end given written (ServesAll p named (IsTrue told) old new) gave wrote (λ g s. served-all p named told allowed first last old mid new r (subst H are (ok-holds given (H keys) g had)) (ok-holds written (last.fault ≡ None) s sound) created)
 
   -- it wasn't
-  pub part-served : {A B C : Type 0} (reads writes : Type 0) (facts : LabelFacts Array) (keys : List ℕ) (end : Result A ThreadEnded) (given : Result B RunStatus) (written : Result C OpenFault) → facts ≡ label told named (tasks_of p) → keys ≡ wanted_of p → IfErr given (IsWhy facts keys reads) →
-      (written ≡ Err fault.Failed → writes) → IfErr end (λ e. StopsAt p given written (left_as e)) → IfErr end (λ e. ServesPart p named (IsTrue told) reads writes old new (left_as e))
-  part-served reads writes facts keys end given written is are why failed stops =
-      IfErr-weaker end (λ e. StopsAt p given written (left_as e)) (λ e. ServesPart p named (IsTrue told) reads writes old new (left_as e)) (λ e at. record {
-        cause = stopped p named told reads writes facts keys given written (left_as e) r.runs r.laws is are why failed at;
-        left = served-left p named told first last old mid new r;
+  pub part-served : {A B C : Type 0} (most : Losses) (reads writes : Type 0) (facts : LabelFacts Array) (keys : List ℕ) (end : Result A ThreadEnded) (given : Result B RunStatus) (written : Result C OpenFault) → facts ≡ label told allowed named (tasks_of p) → keys ≡ wanted_of p → IfErr given (IsWhy facts most keys reads) →
+      (written ≡ Err fault.Failed → writes) → IfErr end (λ e. StopsAt p given written (left_as e)) → IfErr end (λ e. ServesPart p most named (IsTrue told) reads writes old new (left_as e))
+  part-served most reads writes facts keys end given written is are why failed stops =
+      IfErr-weaker end (λ e. StopsAt p given written (left_as e)) (λ e. ServesPart p most named (IsTrue told) reads writes old new (left_as e)) (λ e at. record {
+        cause = stopped p most named told allowed reads writes facts keys given written (left_as e) r.runs r.laws is are why failed at;
+        left = served-left p named told allowed first last old mid new r;
         created = creates-all (names_saved p) old.created new.created (left_as e) (r.gives.created ∙ created);
       }) stops

@@ -146,12 +146,12 @@ module _ (p : Plan) (named : Named) (created written : List Saving) (old mid new
 
 -- ## What was had of a plan
 
-module _ (p : Plan) (named : Named) (told : Bool) (s : Saves) (runs : IsRunnable p) (laws : HasLaws p named) (wanted : IsWantedOf p s.wanted) (saved : AreSaved (label told named (tasks_of p)) s) where
+module _ (p : Plan) (named : Named) (told : Bool) (allowed : Option ℕ) (s : Saves) (runs : IsRunnable p) (laws : HasLaws p named) (wanted : IsWantedOf p s.wanted) (saved : AreSaved (label told allowed named (tasks_of p)) s) where
   abbrev facts : LabelFacts Array
-  facts = label told named (tasks_of p)
+  facts = label told allowed named (tasks_of p)
 
   known-label : IsLabelOf p facts
-  known-label = record { told = told; named = named; is = refl }
+  known-label = record { told = told; allowed = allowed; named = named; is = refl }
 
   number : length s.files ≡ length p.saves
   number = saved.count ∙ (saves-known p named facts s.wanted runs laws known-label wanted).keys
@@ -212,7 +212,7 @@ module _ (p : Plan) (named : Named) (told : Bool) (s : Saves) (runs : IsRunnable
 -- ## The ends
 
 -- what was created and what is held now, of a plan whose label is picked
-pub record IsServed (p : Plan) (named : Named) (told : Bool) (created s : Saves) (old mid new : Files) : Type 0 where
+pub record IsServed (p : Plan) (named : Named) (told : Bool) (allowed : Option ℕ) (created s : Saves) (old mid new : Files) : Type 0 where
   pub runs : IsRunnable p
   pub laws : HasLaws p named
   pub wanted : IsWantedOf p created.wanted
@@ -220,10 +220,10 @@ pub record IsServed (p : Plan) (named : Named) (told : Bool) (created s : Saves)
   pub open_is : AreOpenFor p created.files
   pub fresh : AreFresh p old.tells created.files
   pub on : SavesOn created s
-  pub saved : AreSaved (label told named (tasks_of p)) s
+  pub saved : AreSaved (label told allowed named (tasks_of p)) s
   pub gives : GivesBack s.files mid new
 
-module _ (p : Plan) (named : Named) (told : Bool) (created s : Saves) (old mid new : Files) (r : IsServed p named told created s old mid new) where
+module _ (p : Plan) (named : Named) (told : Bool) (allowed : Option ℕ) (created s : Saves) (old mid new : Files) (r : IsServed p named told allowed created s old mid new) where
   given : IsGiven p created.files s.files old mid new
   given = record { runs = r.runs; open_is = r.open_is; fresh = r.fresh; same = r.on.same; gives = r.gives }
 
@@ -232,20 +232,20 @@ module _ (p : Plan) (named : Named) (told : Bool) (created s : Saves) (old mid n
 
   -- whatever was had and whatever failed: parts of the right files
   pub served-left : IsTrue told → AreLeft (names_saved p) (files_of p named) old new
-  served-left t = given-left p named created.files s.files old mid new given (files-right p named told s r.runs r.laws wanted-still r.saved t)
+  served-left t = given-left p named created.files s.files old mid new given (files-right p named told allowed s r.runs r.laws wanted-still r.saved t)
 
   pub served-others : (n : List ℕ) → IsNoneOf n (names_saved p) → mid.held n ≡ old.held n → new.held n ≡ old.held n
   served-others = given-others p named created.files s.files old mid new given
 
   -- all was had
   pub served-values : All (λ k. had_in s.had k ≡ true) (wanted_of p) → IsTrue told → MeetsNone p named
-  served-values all t = none-met p named told s r.runs r.laws wanted-still r.saved all t (r.on.keys_are ∙ r.keys)
+  served-values all t = none-met p named told allowed s r.runs r.laws wanted-still r.saved all t (r.on.keys_are ∙ r.keys)
 
   -- and nothing failed
   pub served-all : All (λ k. had_in s.had k ≡ true) (wanted_of p) → s.fault ≡ None → mid.created ≡ raised_by (names_saved p) old.created → ServesAll p named (IsTrue told) old new
   served-all all sound created_is = record {
     values = served-values all;
-    whole = λ t tells. given-whole p named created.files s.files old mid new given (files-whole p named told s r.runs r.laws wanted-still r.saved all t sound) tells;
+    whole = λ t tells. given-whole p named created.files s.files old mid new given (files-whole p named told allowed s r.runs r.laws wanted-still r.saved all t sound) tells;
     left = served-left;
     created = r.gives.created ∙ created_is;
   }

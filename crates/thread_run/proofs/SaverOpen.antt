@@ -27,7 +27,7 @@ use Rattle.thread_run.specs.Saver.{AreSaved, AreSavedKeys, HasBoxes, HasNone, Is
 
 -- what fits a key has the lengths of its task's block
 fits-shape : (p : Plan) (facts : LabelFacts Array) → IsLabelOf p facts → (key : ℕ) (b : Array) → BlockFits facts key b → b.shape ≡ result_shape (task_at (tasks_of p) key).spec
-fits-shape p facts l key b fits = let h : BlockFits (label l.told l.named (tasks_of p)) key b = subst (λ (x : LabelFacts Array). BlockFits x key b) l.is fits in h.dims
+fits-shape p facts l key b fits = let h : BlockFits (label l.told l.allowed l.named (tasks_of p)) key b = subst (λ (x : LabelFacts Array). BlockFits x key b) l.is fits in h.dims
 
 -- what fits has these lengths
 abbrev HasLengths : LabelFacts Array → ℕ → List ℕ → Type 0

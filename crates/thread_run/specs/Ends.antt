@@ -9,7 +9,7 @@ use Rattle.cluster_msgs.specs.declared.events.Report.{Report}
 use Rattle.run_report.specs.Text.{report_text}
 use Rattle.command_words.specs.declared.run.RunWords.{RunWords}
 use Rattle.job_run.specs.declared.ends.Ended.{Ended}
-use Rattle.job_run.specs.declared.ends.Ended.TheVariants.{Done, Limit, File, Zero, ReadFault, WriteFault, OutOfMemory}
+use Rattle.job_run.specs.declared.ends.Ended.TheVariants.{Done, Limit, File, Zero, Killed, ReadFault, WriteFault, OutOfMemory}
 use Rattle.job_run.specs.Inputs.{InputsFit}
 use Rattle.job_run.specs.Part.{IsNoneOf, RaisedAtMost}
 use Rattle.job_run.specs.Plan.{Plan, names_saved}
@@ -18,6 +18,7 @@ use Rattle.job_run.specs.Values.{Named, OnInputs, IsFaulty, IsNeeded, MeetsNone,
 use Rattle.thread_run.specs.Counts.{RaisedBetween, feeds, repeated}
 use Rattle.task_graph.specs.Graphs.{shape_of}
 use Rattle.thread_run.specs.Feeding.{is_told}
+use Rattle.thread_run.specs.Losses.{IsKill, IsNeededKey, losses_by}
 use Rattle.thread_run.specs.Reports.{IsOutgrownBy, IsToldRun, label}
 use Rattle.thread_run.specs.declared.ends.ThreadEnded.{ThreadEnded}
 use Rattle.thread_run.specs.declared.ends.ThreadEnded.TheVariants.{Events, Ran}
@@ -49,16 +50,25 @@ pub record HasFault (p : Plan) (files : Files) (node : ℕ) (block : List ℕ) :
 abbrev pub WritesFail : Plan → View → View → Type 0
 WritesFail p old new = Rose old.write_faults new.write_faults ⊎ (HasValues p old.files × Rose old.print_faults new.print_faults)
 
+-- the inputs are as declared, and this key was killed: it lost its worker once more than the words allow, and the script takes workers away as often, or
+-- a read failed. Where the site tells the inputs, it is needed
+pub record HasKilled (p : Plan) (w : RunWords) (old new : View) (key losses : ℕ) : Type 0 where
+  pub inputs : InputsFit p old.files
+  pub needed : IsTrue (is_told old.files p.inputs) → IsNeededKey p key
+  pub kill : IsKill (losses_by w) (Rose old.read_faults new.read_faults) losses
+
 -- Why a run ends so. A zero divisor is met by some needed block: not always the first.
-abbrev pub Cause : Plan → View → View → Ended → Type 0
-Cause p old new Done = IsSmall p × HasValues p old.files × IsFitGiven p old new
-Cause p old new (Zero node block) = IsSmall p × HasFault p old.files node block × IsFitGiven p old new
-Cause p old new WriteFault = IsSmall p × InputsFit p old.files × WritesFail p old new
-Cause p old new end = RunCause p old new end
+abbrev pub Cause : Plan → RunWords → View → View → Ended → Type 0
+Cause p w old new Done = IsSmall p × HasValues p old.files × IsFitGiven p old new
+Cause p w old new (Zero node block) = IsSmall p × HasFault p old.files node block × IsFitGiven p old new
+Cause p w old new (Killed key losses) = IsSmall p × HasKilled p w old new key losses × IsFitGiven p old new
+Cause p w old new WriteFault = IsSmall p × InputsFit p old.files × WritesFail p old new
+Cause p w old new end = RunCause p old new end
 
 -- The saved files: as a run of the same job in the calling thread leaves them, where the site tells.
 abbrev pub Saves : Plan → Files → Files → Ended → Type 0
 Saves p old new (Zero node block) = IsTrue old.tells → AreRight p old new
+Saves p old new (Killed key losses) = IsTrue old.tells → AreRight p old new
 Saves p old new ReadFault = IsTrue old.tells → AreRight p old new
 Saves p old new WriteFault = IsTrue old.tells → AreRight p old new
 Saves p old new OutOfMemory = IsTrue old.tells → AreRight p old new
@@ -75,6 +85,7 @@ Opened names all old new Done = RaisedBetween names all old new
 Opened names all old new (Limit quantity) = new ≡ old
 Opened names all old new (File place error) = RaisedAtMost names old new
 Opened names all old new (Zero node block) = RaisedBetween names all old new
+Opened names all old new (Killed key losses) = RaisedBetween names all old new
 Opened names all old new WriteFault = RaisedBetween names all old new
 Opened names all old new end = RaisedAtMost all old new
 
@@ -117,7 +128,7 @@ Looked p names all old new = AreUntouched old new ⊎ IsAccepted p names all old
 
 -- what a run of a job by threads does, by the end as which it leaves the rest
 pub record LeavesAs (p : Plan) (w : RunWords) (old new : View) (end : Ended) : Type 0 where
-  pub cause : Cause p old new end
+  pub cause : Cause p w old new end
   pub saves : Saves p old.files new.files end
   pub looked : Looked p p.inputs (openings p w) old.files new.files
   pub others : (n : List ℕ) → IsNoneOf n (names_saved p) → new.files.held n ≡ old.files.held n
@@ -143,7 +154,7 @@ pub record IsOutgrownRun (p : Plan) (w : RunWords) (files : Files) : Type 0 wher
   pub told : Bool
   pub told_is : told ≡ is_told files p.inputs
   pub held : OnInputs p files (λ blocks. held_in blocks ≡ named)
-  pub run : IsOutgrownBy (label told named (tasks_of p)) (shape_of (tasks_of p)) w
+  pub run : IsOutgrownBy (label told w.settings.allowed named (tasks_of p)) (shape_of (tasks_of p)) w
 
 -- what a run of a job by threads does
 pub record RunsByThreads (p : Plan) (w : RunWords) (old new : View) (end : ThreadEnded) : Type 0 where

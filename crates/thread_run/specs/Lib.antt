@@ -2,6 +2,7 @@ pub mod Counts
 pub mod Ends
 pub mod Feeding
 pub mod Keeping
+pub mod Losses
 pub mod Planning
 pub mod Reports
 pub mod Saver

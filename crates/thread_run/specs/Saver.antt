@@ -29,11 +29,12 @@ pub record Saves : Type 0 where
 abbrev pub had_in : List Bool → ℕ → Bool
 had_in had key = slice_index_or had key true
 
--- what a label says is what the label of a run of the plan does, told or not, over some inputs
+-- what a label says is what the label of a run of the plan does, told or not, whatever losses are allowed, over some inputs
 pub record IsLabelOf (p : Plan) (facts : LabelFacts Array) : Type 0 where
   pub told : Bool
+  pub allowed : Option ℕ
   pub named : Named
-  pub is : facts ≡ label told named (tasks_of p)
+  pub is : facts ≡ label told allowed named (tasks_of p)
 
 -- nothing was had of so many keys, and nothing has failed
 pub record HasNone (keys : ℕ) (wanted : Wanted) (s : Saves) : Type 0 where

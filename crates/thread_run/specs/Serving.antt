@@ -4,11 +4,12 @@ use Rattle.io_edge.specs.declared.edge.OpenFault.{OpenFault}
 use Rattle.io_edge.specs.declared.edge.OpenFault.TheVariants as fault
 use Rattle.io_edge.specs.Given.{GivesMore}
 use Rattle.io_edge.specs.View.{View, Files, raised_by}
-use Rattle.cluster_msgs.specs.Labels.{BlameFits, LabelFacts}
+use Rattle.cluster_msgs.specs.Labels.{LabelFacts}
+use Rattle.node_runner.specs.Runs.{HasFailed, IsAtFault}
 use Rattle.node_runner.specs.declared.ends.RunStatus.{RunStatus}
 use Rattle.node_runner.specs.declared.ends.RunStatus.TheVariants as status
 use Rattle.job_run.specs.declared.ends.Ended.{Ended}
-use Rattle.job_run.specs.declared.ends.Ended.TheVariants.{Zero, ReadFault, WriteFault, OutOfMemory}
+use Rattle.job_run.specs.declared.ends.Ended.TheVariants.{Zero, Killed, ReadFault, WriteFault, OutOfMemory}
 use Rattle.job_run.specs.Evaluating.{EvaluationCreates}
 use Rattle.job_run.specs.Part.{AreLeft, AreWhole, IsNoneOf, RaisedAtMost}
 use Rattle.job_run.specs.Plan.{Plan, names_saved}
@@ -16,17 +17,21 @@ use Rattle.job_run.specs.Values.{Named, IsFaulty, MeetsNone, files_of}
 use Rattle.job_run.specs.Wanted.{EndsAtKey}
 use Rattle.thread_run.specs.Counts.{repeated}
 use Rattle.thread_run.specs.Ends.{IsNeededBlock}
+use Rattle.thread_run.specs.Losses.{Losses, IsKill, IsNeededKey}
 
--- why the cluster didn't give all blocks: a key of this label is to blame for a wanted one, or feeds failed
-abbrev pub IsWhy : {B : Type 0} → LabelFacts B → List ℕ → Type 0 → RunStatus → Type 0
-IsWhy facts wanted reads (status.Zero key) = (k : ℕ) × Contains wanted k × BlameFits facts k key
-IsWhy facts wanted reads status.Read = reads
-IsWhy facts wanted reads status.Events = Unit {0}
-IsWhy facts wanted reads status.Memory = Unit {0}
+-- why the cluster didn't give all blocks: a key of this label is to blame for a wanted one, since it is at fault or was killed, or feeds failed
+abbrev pub IsWhy : {B : Type 0} → LabelFacts B → Losses → List ℕ → Type 0 → RunStatus → Type 0
+IsWhy facts most wanted reads (status.Zero key) = IsAtFault facts wanted key
+IsWhy facts most wanted reads (status.Killed key losses) = HasFailed facts wanted key × IsKill most reads losses
+IsWhy facts most wanted reads status.Read = reads
+IsWhy facts most wanted reads status.Events = Unit {0}
+IsWhy facts most wanted reads status.Memory = Unit {0}
 
--- how a run is stopped, by what the cluster tells and by whether all was written: a zero divisor or a failed feed comes before what couldn't be written
+-- how a run is stopped, by what the cluster tells and by whether all was written: a zero divisor, a killed key or a failed feed comes before what
+-- couldn't be written
 abbrev pub StopsAt : {A B : Type 0} → Plan → Result A RunStatus → Result B OpenFault → Ended → Type 0
 StopsAt p given written (Zero node block) = (key : ℕ) × (given ≡ Err (status.Zero key)) × EndsAtKey p key (Zero node block)
+StopsAt p given written (Killed key losses) = given ≡ Err (status.Killed key losses)
 StopsAt p given written ReadFault = given ≡ Err status.Read
 StopsAt p given written WriteFault = written ≡ Err fault.Failed
 StopsAt p given written OutOfMemory = Unit {0}
@@ -42,12 +47,13 @@ abbrev pub HasShort : List ℕ → ℕ → Type 0
 HasShort lengths least = (n : ℕ) × Contains lengths n × (n < least)
 
 -- why not all is saved; the two facts are the causes of faults
-abbrev pub Stops : Plan → Named → Type 0 → Type 0 → Type 0 → Ended → Type 0
-Stops p named told reads writes (Zero node block) = IsNeededBlock p node block × (told → IsFaulty p named node block)
-Stops p named told reads writes ReadFault = reads
-Stops p named told reads writes WriteFault = writes
-Stops p named told reads writes OutOfMemory = Unit {0}
-Stops p named told reads writes end = ⊥
+abbrev pub Stops : Plan → Losses → Named → Type 0 → Type 0 → Type 0 → Ended → Type 0
+Stops p most named told reads writes (Zero node block) = IsNeededBlock p node block × (told → IsFaulty p named node block)
+Stops p most named told reads writes (Killed key losses) = (told → IsNeededKey p key) × IsKill most reads losses
+Stops p most named told reads writes ReadFault = reads
+Stops p most named told reads writes WriteFault = writes
+Stops p most named told reads writes OutOfMemory = Unit {0}
+Stops p most named told reads writes end = ⊥
 
 -- nothing but at most so many openings of the inputs, reads, creations and writes of the saved files
 pub record ServesFiles (p : Plan) (most : ℕ) (old new : View) : Type 0 where
@@ -71,7 +77,7 @@ pub record ServesAll (p : Plan) (named : Named) (told : Type 0) (old new : Files
   pub created : new.created ≡ raised_by (names_saved p) old.created
 
 -- it wasn't; the two facts are the causes of faults
-pub record ServesPart (p : Plan) (named : Named) (told reads writes : Type 0) (old new : Files) (end : Ended) : Type 0 where
-  pub cause : Stops p named told reads writes end
+pub record ServesPart (p : Plan) (most : Losses) (named : Named) (told reads writes : Type 0) (old new : Files) (end : Ended) : Type 0 where
+  pub cause : Stops p most named told reads writes end
   pub left : told → AreLeft (names_saved p) (files_of p named) old new
   pub created : EvaluationCreates (names_saved p) old.created new.created end

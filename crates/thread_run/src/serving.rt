@@ -17,6 +17,7 @@ ghost use Rattle.node_runner.specs.declared.ends.RunStatus.TheVariants as status
 ghost use Rattle.task_graph.specs.Graphs.{shape_of};
 ghost use Rattle.thread_run.specs.Counts.{feeds as feeds_of};
 ghost use Rattle.thread_run.specs.Feeding.{IsFixed};
+ghost use Rattle.thread_run.specs.Losses.{losses_by, losses_in};
 ghost use Rattle.thread_run.specs.Planning.{IsRunPlan};
 ghost use Rattle.thread_run.specs.Ends.{left_as};
 ghost use Rattle.thread_run.specs.Reports.{IsOutgrown, IsOutgrownBy, IsPlanOf, IsServedRun, IsToldBy, IsToldOfRun, label};
@@ -64,7 +65,8 @@ fn unsaved(fault: OpenFault) -> Ended
     }
 }
 
-// Whether all was given and written, or how the run is stopped: a zero divisor or a failed feed comes before what couldn't be written.
+// Whether all was given and written, or how the run is stopped: a zero divisor, a killed key or a failed feed comes before what couldn't
+// be written.
 #[tactic(auto, using(crate::proofs::Serves::stops_unsaved, crate::proofs::Serves::stops_zero))]
 fn all_done(
     alloc: Global,
@@ -86,6 +88,9 @@ fn all_done(
             Err(fault) => Err(ThreadEnded::Ran(unsaved(fault))),
         },
         Err(RunStatus::Zero { key }) => Err(ThreadEnded::Ran(ended_at(alloc, job, wanted, key))),
+        Err(RunStatus::Killed { key, losses }) => {
+            Err(ThreadEnded::Ran(Ended::Killed { key, losses }))
+        }
         Err(RunStatus::Read) => Err(ThreadEnded::Ran(Ended::ReadFault)),
         Err(RunStatus::Events) => match written {
             Ok(()) => Err(ThreadEnded::Events),
@@ -146,6 +151,7 @@ where
     requires runs { IsRunnable (plan_of job.now) }
     requires wanted { IsWantedOf (plan_of job.now) wanted.now }
     requires picked { P.picked ≡ Some graph.now }
+    requires allowed { P.allowed ≡ plan.now.allowed }
     requires tasks { graph.now.job.tasks ≡ tasks_of (plan_of job.now) }
     requires plan { IsRunPlan plan.now }
     ensures files { ServesFiles (plan_of job.now) 0 (S.view site.old) (S.view site.new) }
@@ -153,7 +159,7 @@ where
     ensures histories { IfOk result.0 (IsServedRun ⟦<RunLabel<Graphed<S::In, E, V>, Named<V, P>> as Label>⟧.facts
         (graph_of graph.now.job) plan.now wanted.now.all) }
     ensures outgrown { result.0 ≡ Err Events → IsOutgrown ⟦<RunLabel<Graphed<S::In, E, V>, Named<V, P>> as Label>⟧.facts (graph_of graph.now.job) plan.now }
-    ensures stopped { IfErr result.0 (λ end. ServesPart (plan_of job.now) E.named (IsTrue V.told)
+    ensures stopped { IfErr result.0 (λ end. ServesPart (plan_of job.now) (losses_in plan.now) E.named (IsTrue V.told)
         (HasShort (map (λ v. vec_len v) feeds.items) plan.now.threads ⊎ Rose (S.view site.old).read_faults (S.view site.new).read_faults)
         (Rose (S.view site.old).write_faults (S.view site.new).write_faults)
         (S.view site.old).files (S.view site.new).files (left_as end)) }
@@ -230,6 +236,7 @@ where
     requires runs { IsRunnable (plan_of job.now) }
     requires wanted { IsWantedOf (plan_of job.now) wanted.now }
     requires picked { P.picked ≡ Some graph.now }
+    requires allowed { P.allowed ≡ plan.now.allowed }
     requires tasks { graph.now.job.tasks ≡ tasks_of (plan_of job.now) }
     requires fixed { IsFixed E.named V.told (plan_of job.now).inputs graph.now.job.heads (S.view site.old).files }
     requires plan { IsRunPlan plan.now }
@@ -238,7 +245,7 @@ where
     ensures histories { IfOk result.0 (IsServedRun ⟦<RunLabel<Graphed<S::In, E, V>, Named<V, P>> as Label>⟧.facts
         (graph_of graph.now.job) plan.now wanted.now.all) }
     ensures outgrown { result.0 ≡ Err Events → IsOutgrown ⟦<RunLabel<Graphed<S::In, E, V>, Named<V, P>> as Label>⟧.facts (graph_of graph.now.job) plan.now }
-    ensures stopped { IfErr result.0 (λ end. ServesPart (plan_of job.now) E.named (IsTrue V.told)
+    ensures stopped { IfErr result.0 (λ end. ServesPart (plan_of job.now) (losses_in plan.now) E.named (IsTrue V.told)
         (Rose (S.view site.old).read_faults (S.view site.new).read_faults) (Rose (S.view site.old).write_faults (S.view site.new).write_faults)
         (S.view site.old).files (S.view site.new).files (left_as end)) }
 {
@@ -274,6 +281,7 @@ where
     requires runs { IsRunnable (plan_of job.now) }
     requires wanted { IsWantedOf (plan_of job.now) wanted.now }
     requires picked { P.picked ≡ Some graph.now }
+    requires allowed { P.allowed ≡ plan.now.allowed }
     requires tasks { graph.now.job.tasks ≡ tasks_of (plan_of job.now) }
     requires fixed { IsFixed E.named V.told (plan_of job.now).inputs graph.now.job.heads (S.view site.old).files }
     requires plan { IsRunPlan plan.now }
@@ -282,7 +290,7 @@ where
     ensures histories { IfOk result (IsServedRun ⟦<RunLabel<Graphed<S::In, E, V>, Named<V, P>> as Label>⟧.facts
         (graph_of graph.now.job) plan.now wanted.now.all) }
     ensures outgrown { result ≡ Err Events → IsOutgrown ⟦<RunLabel<Graphed<S::In, E, V>, Named<V, P>> as Label>⟧.facts (graph_of graph.now.job) plan.now }
-    ensures stopped { IfErr result (λ end. ServesPart (plan_of job.now) E.named (IsTrue V.told)
+    ensures stopped { IfErr result (λ end. ServesPart (plan_of job.now) (losses_in plan.now) E.named (IsTrue V.told)
         (Rose (S.view site.old).read_faults (S.view site.new).read_faults) (Rose (S.view site.old).write_faults (S.view site.new).write_faults)
         (S.view site.old).files (S.view site.new).files (left_as end)) }
 {
@@ -321,24 +329,32 @@ where
     requires runs { IsRunnable (plan_of job.now) }
     requires wanted { IsWantedOf (plan_of job.now) wanted.now }
     requires picked { P.picked ≡ Some graph.now }
+    requires allowed { P.allowed ≡ plan.now.allowed }
     requires tasks { graph.now.job.tasks ≡ tasks_of (plan_of job.now) }
     requires fixed { IsFixed E.named V.told (plan_of job.now).inputs graph.now.job.heads (S.view site.old).files }
     requires plan { IsRunPlan plan.now }
     ensures files { ServesFiles (plan_of job.now) (numbers_of plan.now * plan.now.threads) (S.view site.old) (S.view site.new) }
     ensures served { OnOk result (ServesAll (plan_of job.now) E.named (IsTrue V.told) (S.view site.old).files (S.view site.new).files) }
     ensures asked { IfOk result (λ told. is_some told.report ≡ asked) }
-    ensures told { IfOk result (IsToldOfRun (label V.told E.named (tasks_of (plan_of job.now)))
+    ensures told { IfOk result (IsToldOfRun (label V.told plan.now.allowed E.named (tasks_of (plan_of job.now)))
         (shape_of (tasks_of (plan_of job.now))) plan.now (wanted_of (plan_of job.now))) }
-    ensures outgrown { result ≡ Err Events → IsOutgrown (label V.told E.named (tasks_of (plan_of job.now)))
+    ensures outgrown { result ≡ Err Events → IsOutgrown (label V.told plan.now.allowed E.named (tasks_of (plan_of job.now)))
         (shape_of (tasks_of (plan_of job.now))) plan.now }
-    ensures stopped { IfErr result (λ end. ServesPart (plan_of job.now) E.named (IsTrue V.told)
+    ensures stopped { IfErr result (λ end. ServesPart (plan_of job.now) (losses_in plan.now) E.named (IsTrue V.told)
         (Rose (S.view site.old).read_faults (S.view site.new).read_faults) (Rose (S.view site.old).write_faults (S.view site.new).write_faults)
         (S.view site.old).files (S.view site.new).files (left_as end)) }
 {
     let histories = run_stored::<R, S, G, E, V, P>(
         rt, alloc, site, gate, job, graph, wanted, plan, memory,
     )?;
-    let told = told(alloc, graph.shape(), plan.saturation, histories, asked)?;
+    let told = told(
+        alloc,
+        graph.shape(),
+        plan.saturation,
+        plan.allowed,
+        histories,
+        asked,
+    )?;
     Ok(told)
 }
 
@@ -346,7 +362,8 @@ where
 /// words ask for it.
 ///
 /// # Errors
-/// How the run ends: a zero divisor that the client was told of, a fault, a core that has taken all events that it takes, or want of memory.
+/// How the run ends: a zero divisor or a killed key that the client was told of, a fault, a core that has taken all events that it takes, or want of
+/// memory.
 #[tactic(auto, using(crate::proofs::Serves::part_none))]
 pub fn serve<R, S, G, E, V>(
     rt: &R,
@@ -376,11 +393,11 @@ where
     ensures given { IsFitGiven (plan_of job.now) (S.view site.old) (S.view site.new) }
     ensures served { OnOk result (ServesAll (plan_of job.now) E.named (IsTrue V.told) (S.view site.old).files (S.view site.new).files) }
     ensures asked { IfOk result (λ told. is_some told.report ≡ words.report) }
-    ensures told { IfOk result (IsToldBy (label V.told E.named (tasks_of (plan_of job.now)))
+    ensures told { IfOk result (IsToldBy (label V.told words.settings.allowed E.named (tasks_of (plan_of job.now)))
         (shape_of (tasks_of (plan_of job.now))) words (wanted_of (plan_of job.now))) }
-    ensures outgrown { result ≡ Err Events → IsOutgrownBy (label V.told E.named (tasks_of (plan_of job.now)))
+    ensures outgrown { result ≡ Err Events → IsOutgrownBy (label V.told words.settings.allowed E.named (tasks_of (plan_of job.now)))
         (shape_of (tasks_of (plan_of job.now))) words }
-    ensures stopped { IfErr result (λ end. ServesPart (plan_of job.now) E.named (IsTrue V.told)
+    ensures stopped { IfErr result (λ end. ServesPart (plan_of job.now) (losses_by words) E.named (IsTrue V.told)
         (Rose (S.view site.old).read_faults (S.view site.new).read_faults) (Rose (S.view site.old).write_faults (S.view site.new).write_faults)
         (S.view site.old).files (S.view site.new).files (left_as end)) }
 {
@@ -430,6 +447,7 @@ fn plan_in(words: RunWords) -> RunPlan
         workers: settings.workers,
         threads: settings.threads,
         saturation: settings.saturation,
+        allowed: settings.allowed,
         script,
         capacity: CAPACITY,
     }

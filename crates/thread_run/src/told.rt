@@ -55,17 +55,18 @@ fn verdict_of(
     alloc: Global,
     graph: &GraphShape,
     saturation: u32,
+    allowed: Option<u32>,
     whole: bool,
     journal: &Journal,
 ) -> Result<Verdict, AllocError>
     requires saturation { (1 ≤ saturation) × (saturation ≤ 1000) }
-    ensures { IfOk result (λ v. (h : AnyHistories) → (IsTrue whole ↔ AreWhole h) → IsVerdictOf (audited graph.now saturation) h journal.now v) }
+    ensures { IfOk result (λ v. (h : AnyHistories) → (IsTrue whole ↔ AreWhole h) → IsVerdictOf (audited graph.now saturation allowed) h journal.now v) }
 {
     if !whole {
         return Ok(Verdict::NotComplete);
     }
     let job = ShapeJob::new(graph.copy()?);
-    match audit(alloc, job, (), 1, saturation, journal) {
+    match audit(alloc, job, (), 1, saturation, allowed, journal) {
         Ok(Audit::Agrees(_)) => Ok(Verdict::Agrees),
         Ok(Audit::Differs { stamp }) => Ok(Verdict::Differs { stamp }),
         Err(_) => Err(AllocError),
@@ -88,8 +89,8 @@ fn report_asked(
     Ok(Some(report(alloc, graph, journal)?))
 }
 
-/// What is told of a run's histories over its graph, with this saturation: the report where it is asked for, and whether they are a legal list of
-/// events together.
+/// What is told of a run's histories over its graph, with this saturation and these losses: the report where it is asked for, and
+/// whether they are a legal list of events together.
 ///
 /// # Errors
 /// Where no memory is left.
@@ -97,16 +98,17 @@ pub fn told(
     alloc: Global,
     graph: &GraphShape,
     saturation: u32,
+    allowed: Option<u32>,
     histories: Histories,
     asked: bool,
 ) -> Result<Told, AllocError>
     requires saturation { (1 ≤ saturation) × (saturation ≤ 1000) }
     ensures asked { IfOk result (λ t. is_some t.report ≡ asked) }
-    ensures told { IfOk result (IsToldOf graph.now saturation histories) }
+    ensures told { IfOk result (IsToldOf graph.now saturation allowed histories) }
 {
     let whole = are_whole(&histories);
     let journal = merge(alloc, listed(alloc, histories)?)?;
-    let verdict = verdict_of(alloc, graph, saturation, whole, &journal)?;
+    let verdict = verdict_of(alloc, graph, saturation, allowed, whole, &journal)?;
     let report = report_asked(alloc, graph, &journal, asked)?;
     Ok(Told { report, verdict })
 }

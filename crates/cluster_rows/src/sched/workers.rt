@@ -43,6 +43,7 @@ pub fn a_worker_leaves_its_task()
         × (table s.facts ≡ record busy {
           workers = record busy_one { sent = 3 } ∷ record busy_two { threads = None } ∷ [];
           on = None ∷ Some (1, 4) ∷ Some (1, 5) ∷ [];
+          losses = 0 ∷ 0 ∷ 1 ∷ [];
           counter = 6;
         }) }
 {}
@@ -53,6 +54,7 @@ pub fn a_worker_leaves_its_block()
         × (table s.facts ≡ record busy {
           workers = record busy_one { threads = None; has = None ∷ None ∷ None ∷ [] } ∷ record busy_two { sent = 2 } ∷ [];
           on = Some (2, 5) ∷ None ∷ Some (2, 2) ∷ [];
+          losses = 0 ∷ 1 ∷ 0 ∷ [];
           counter = 6;
         }) }
 {}

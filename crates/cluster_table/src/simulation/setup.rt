@@ -14,10 +14,11 @@ use cluster_sim::SimPlan;
 /// A script has at most this many items.
 const MOST_ITEMS: usize = 64;
 
-/// A plan, the generator's number, the keys that client 1 wants, and the job with its feed.
+/// A plan, what losses are allowed, the generator's number, the keys that client 1 wants, and the job with its feed.
 #[derive(Drop)]
 pub struct Setup {
     pub plan: SimPlan,
+    pub allowed: Option<u32>,
     pub number: u64,
     pub wanted: KeyList,
     pub job: Quotients,
@@ -95,7 +96,7 @@ pub fn read_setup(words: &mut Words<'_>) -> Result<Setup, Fault>
     ensures feed { IfOk result (λ s. s.feed.value ≡ s.job.content) }
 {
     let workers = words.small();
-    let threads = words.small();
+    let (threads, allowed) = words.bounded();
     let number = words.number();
     let plan = plan_with(workers, threads, read_script(words))?;
     let wanted = words.keys();
@@ -103,6 +104,7 @@ pub fn read_setup(words: &mut Words<'_>) -> Result<Setup, Fault>
     let wanted = wanted_of(wanted, job.shape.keys())?;
     Ok(Setup {
         plan,
+        allowed,
         number,
         wanted,
         job,

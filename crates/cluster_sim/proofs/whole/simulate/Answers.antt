@@ -6,9 +6,12 @@ use Rattle.cluster_sim.specs.declared.ended.Ending.{Ending}
 use Rattle.cluster_sim.specs.declared.whole.SimEnd.{SimEnd}
 use Rattle.cluster_sim.specs.Plans.{plan_of}
 use Rattle.std.proofs.lemmas.Result.{err_from_is_err_and}
-use Rattle.cluster_sim.proofs.ActLemmas.{stays_both, counts_as, counts_from}
+use Rattle.cluster_sim.proofs.ActLemmas.{setting-world, stays_both, counts_as, counts_from}
 use Rattle.cluster_sim.proofs.PlayLemmas.{spent_play, stuck_play, cut_play, unfinished_play, same_error}
 use Rattle.cluster_sim.proofs.SimulateLemmas.{served_is}
+use Rattle.cluster_sim.proofs.FaultLemmas.{bounded, key_is, no_fault}
+use Rattle.cluster_sim.proofs.LedLemmas.{few_losses}
+use Rattle.cluster_sim.proofs.RemovalLemmas.{few_removed}
 use Rattle.cluster_sim.proofs.SimulateRecords.{halted_alone, opened_between, opened_drawn, reported, deserted_by, unfinished_by, blamed_by}
 use Rattle.cluster_sim.proofs.whole.simulate.Goals as goal
 
@@ -35,19 +38,29 @@ look-requires-clause-shape g c = λ κs lives. c.in_ok-make_opening.ensures.open
 pub returns-clause-served : goal.returns-clause-served
 returns-clause-served g c told =
     let d = opened_drawn _ _ (plan_of c.args.plan.now) c.args.wanted.now c.args.number c.args.world.now c.make_opening.new.world _ c.requires.opening (subst IsShape c.shape.ensures.setting c.sound.ensures) c.in_ok-make_opening.ensures.opened c.make_opening.ensures.stays c.new.ensures c.new-2.ensures told in
-    reported _ _ (plan_of c.args.plan.now) c.args.wanted.now c.args.number _ c.args.world.now c.play.new.world c.play.new.run c.in_ok-report.report c.shape-2.result.now
-    (stays_both _ _ _ _ c.make_opening.ensures.stays c.play.ensures.stays) c.shape-2.ensures.setting c.in_ok-report.ensures c.is_safe.ensures.events (c.in_ok-end.ensures.drawn c.args.number d)
+    rw (c.fault_of-fault.ensures, ← key_is (world c.play.new.world) c.in_ok-end.end.failure) (reported _ _ (plan_of c.args.plan.now) c.args.wanted.now c.args.number _ c.args.world.now c.play.new.world c.play.new.run c.in_ok-report.report c.shape-2.result.now
+    (stays_both _ _ _ _ c.make_opening.ensures.stays c.play.ensures.stays) c.shape-2.ensures.setting c.in_ok-report.ensures c.is_safe.ensures.events (c.in_ok-end.ensures.drawn c.args.number d))
 
 pub returns-clause-all : goal.returns-clause-all
 returns-clause-all g c =
     let s = c.in_ok-end.ensures.play in
-    served_is (world c.play.new.world) c.args.wanted.now c.in_ok-end.end.failure s.between.standing.client (λ k q. subst (λ (x : Shape). k < key_count x) (sym s.between.standing.shape) (s.between.standing.keys k q)) s.over
+    let w = world c.play.new.world in
+    let h = served_is w c.args.wanted.now c.in_ok-end.end.failure s.between.standing.client (λ k q. subst (λ (x : Shape). k < key_count x) (sym s.between.standing.shape) (s.between.standing.keys k q)) s.over in
+    let n = no_fault w c.in_ok-end.end.failure in
+    rw c.fault_of-fault.ensures ((λ e. h.0 (n.0 e)), (λ all. n.1 (h.1 all)))
 
 pub returns-clause-blame : goal.returns-clause-blame
-returns-clause-blame g c told =
-    let d = opened_drawn _ _ (plan_of c.args.plan.now) c.args.wanted.now c.args.number c.args.world.now c.make_opening.new.world _ c.requires.opening (subst IsShape c.shape.ensures.setting c.sound.ensures) c.in_ok-make_opening.ensures.opened c.make_opening.ensures.stays c.new.ensures c.new-2.ensures told in
-    blamed_by _ _ (plan_of c.args.plan.now) c.args.wanted.now c.args.number c.in_ok-end.end.failure c.args.world.now c.play.new.world c.play.new.run (subst IsShape c.shape.ensures.setting c.sound.ensures)
-    (stays_both _ _ _ _ c.make_opening.ensures.stays c.play.ensures.stays) c.in_ok-end.ensures.play c.is_safe.ensures.events (c.in_ok-end.ensures.drawn c.args.number d)
+returns-clause-blame g c told es h =
+    rw c.fault_of-fault.ensures (blamed_by g.J.JobSpec.operation g.J.JobSpec.feed_tells (plan_of c.args.plan.now) c.args.wanted.now c.args.number _ c.in_ok-end.end.failure c.args.world.now c.play.new.world c.play.new.run (subst IsShape c.shape.ensures.setting c.sound.ensures)
+    (stays_both _ _ _ _ c.make_opening.ensures.stays c.play.ensures.stays) c.in_ok-end.ensures.play c.is_safe.ensures.losses es h)
+
+pub returns-clause-bounded : goal.returns-clause-bounded
+returns-clause-bounded g c =
+    let new = c.play.new.world in
+    let stays = stays_both _ _ _ _ c.make_opening.ensures.stays c.play.ensures.stays in
+    let led = c.in_ok-end.ensures.play.between.led in
+    rw c.fault_of-fault.ensures (bounded (world new) (setting c.args.world.now) (plan_of c.args.plan.now).script c.in_ok-end.end.failure (setting-world new ∙ stays.setting)
+    (few_losses (setting new) (plan_of c.args.plan.now) c.args.wanted.now _ led) (few_removed (setting new) (plan_of c.args.plan.now) c.args.wanted.now _ led))
 
 pub returns-clause-stays : goal.returns-clause-stays
 returns-clause-stays g c = stays_both _ _ _ _ c.make_opening.ensures.stays c.play.ensures.stays

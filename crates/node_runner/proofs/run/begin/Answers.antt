@@ -1,4 +1,4 @@
-use Rattle.std.proofs.Common.{◌≡◌, ◌+◌, ◌<◌, ℕ, map, subst, true}
+use Rattle.std.proofs.Common.{◌≡◌, ◌∙◌, ◌+◌, ◌<◌, ℕ, map, subst, true}
 use Rattle.std.specs.Prelude.{Contains, vec_len}
 use Rattle.std.proofs.lemmas.Option.{IfSome_then}
 use Rattle.gather_client.specs.CoreState.{client_facts}
@@ -6,14 +6,20 @@ use Rattle.worker_core.specs.Core.{facts as worker_facts}
 use Rattle.turn_cell.specs.Rows.{berth_of}
 use Rattle.node_runner.specs.Making.{AreMade}
 use Rattle.node_runner.specs.Runs.{IsFirstScheduler, IsFirstWorker, IsFirstClient, numbers}
-use Rattle.node_runner.proofs.Beginning.{deps_named}
+use Rattle.node_runner.proofs.Beginning.{allowed_named, deps_named}
 use Rattle.node_runner.proofs.run.begin.Goals as goal
 
 pub make_rows-rows-requires-clause-graph : goal.make_rows-rows-requires-clause-graph
 make_rows-rows-requires-clause-graph g c = λ κs within.
     let j = g.J.JobSpec in
     let k = g.K.RunName in
-    deps_named j.graph j.operation j.key_dims j.block_dims k.told k.job c.args.job.now c.shape.result.now c.requires.named c.shape.ensures
+    deps_named j.graph j.operation j.key_dims j.block_dims k.told k.allowed k.job c.args.job.now c.shape.result.now c.requires.named c.shape.ensures
+
+pub make_rows-rows-requires-clause-allowed : goal.make_rows-rows-requires-clause-allowed
+make_rows-rows-requires-clause-allowed g c = λ κs within.
+    let j = g.J.JobSpec in
+    let k = g.K.RunName in
+    allowed_named j.graph j.operation j.key_dims j.block_dims k.told k.allowed k.job c.args.job.now c.requires.named ∙ c.requires.allowed
 
 pub returns-clause-scheduler : goal.returns-clause-scheduler
 returns-clause-scheduler g c = IfSome_then c.rights-stamps.result c.rights-stamps.ensures (λ _ yes.

@@ -27,7 +27,7 @@ returns-in-Ok-clause-ended g c = IfSome_then c.end_nodes.result.0.histories c.en
   last_facts (facts c.in-Ok.scheduler.history.book.core.core) (map (λ w. worker_facts w.history.book.core.core) c.in-Ok.workers.items)
       (client_facts c.in-Ok.client.book.core.core),
   run,
-  c.end_nodes.ensures.given_up,
+  c.end_nodes.ensures.doubt,
 ))
 
 pub returns-in-Err-clause-leads : goal.returns-in-Err-clause-leads

@@ -10,7 +10,7 @@ pub returns-in-Some-clause-ended : goal.returns-in-Some-clause-ended
 returns-in-Some-clause-ended g c =
     let j = g.J.JobSpec in
     let k = g.K.RunName in
-    let l = run_facts j.graph j.operation j.key_dims j.block_dims k.told k.job in
+    let l = run_facts j.graph j.operation j.key_dims j.block_dims k.told k.allowed k.job in
     let ends = c.run_made.result.0 in
     ended_more l (j.graph c.args.job.now) c.args.plan.now c.args.wanted.now
     ((c.begin-rows.result.2 ≡ true) ⊎ ((f : _) × Contains ends.feeds.items f × (0 < j.fault_count f)))
@@ -28,7 +28,7 @@ pub returns-in-None-clause-ended : goal.returns-in-None-clause-ended
 returns-in-None-clause-ended g c =
     let j = g.J.JobSpec in
     let k = g.K.RunName in
-    let l = run_facts j.graph j.operation j.key_dims j.block_dims k.told k.job in
+    let l = run_facts j.graph j.operation j.key_dims j.block_dims k.told k.allowed k.job in
     let ends = c.close_rows.result in
     ended_none l (j.graph c.args.job.now) c.args.plan.now c.args.wanted.now
     (HasFeedFault j.fault_count c.args.plan.now.threads (map (λ v. vec_len v) c.args.feeds.items) ends.feeds.items)

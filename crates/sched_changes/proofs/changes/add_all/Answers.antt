@@ -36,3 +36,6 @@ loop-key-preserved c =
       follows = follows_then c.args.table.now c.loop-key.table c.add.new.table c.loop-key.invariant.follows c.add.ensures.follows;
       kept = added_then f g (facts c.add.new.table) w (keys f) c.loop-key.invariant.kept (subst (λ (z : Facts). IsAdded g z w (keys f)) (sym (ap (λ (z : Changed). z.facts) c.in_ok-add.ensures.change)) (added_one g c.loop-key.freed w c.args.seen x (keys f) (c.requires.keys c.loop-key.key-index 0 (omega arith))));
     }
+
+pub returns-in_err-add-clause-follows : goal.returns-in_err-add-clause-follows
+returns-in_err-add-clause-follows c = follows_then c.args.table.now c.loop-key.table c.add.new.table c.loop-key.invariant.follows c.add.ensures.follows

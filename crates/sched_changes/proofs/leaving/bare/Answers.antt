@@ -1,11 +1,11 @@
-use Rattle.std.proofs.Common.{◌≡◌, ◌<◌, ◌≤◌, ℕ, true, false, subst, sym, ap, ◌∙◌, arith}
+use Rattle.std.proofs.Common.{◌≡◌, ◌<◌, ◌≤◌, ◌^◌, ℕ, true, false, subst, sym, ap, ◌∙◌, arith}
 use Rattle.cluster_rules.specs.Sched.{Facts, keys, connected}
 use Rattle.sched_facts.specs.Kept.{left_key}
 use Rattle.sched_facts.proofs.Leaving.{left_none, left_more, left_setting, left_connected}
 use Rattle.task_table.specs.Lists.{is_at}
 use Rattle.task_table.specs.Tasks.{facts}
 use Rattle.sched_changes.proofs.Following.{follows_self, follows_then}
-use Rattle.sched_changes.proofs.LeavingLemmas.{left_at, left_over}
+use Rattle.sched_changes.proofs.LeavingLemmas.{left_at, left_losses, left_over}
 use Rattle.sched_changes.proofs.leaving.bare.Goals as goal
 
 pub loop-key-init : goal.loop-key-init
@@ -15,8 +15,9 @@ pub bare_key-requires : goal.bare_key-requires
 bare_key-requires c =
     let f = facts c.args.table.now in
     record {
-      worker = subst (λ (g : Facts). connected g c.args.worker ≡ true) (sym c.loop-key.invariant.facts) (left_connected f c.args.worker c.loop-key.from c.args.worker ∙ c.requires);
+      worker = subst (λ (g : Facts). connected g c.args.worker ≡ true) (sym c.loop-key.invariant.facts) (left_connected f c.args.worker c.loop-key.from c.args.worker ∙ c.requires.worker);
       key = c.in-Some.ensures.within;
+      room = subst (λ (g : Facts). g.losses c.in-Some.key < 2 ^ 31) (sym c.loop-key.invariant.facts) (subst (λ n. n < 2 ^ 31) (sym (left_losses f c.args.worker c.loop-key.from c.in-Some.key c.in-Some.ensures.first.0)) (c.requires.room c.in-Some.key));
     }
 
 pub loop-key-preserved : goal.loop-key-preserved

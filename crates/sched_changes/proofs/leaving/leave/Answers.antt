@@ -10,7 +10,7 @@ pub make-requires : goal.make-requires
 make-requires c =
     let f = facts c.args.table.now in
     record {
-      worker = subst (λ (g : Facts). connected g c.args.worker ≡ true) (sym c.bare.ensures.facts) (left_connected f c.args.worker (keys f) c.args.worker ∙ c.requires);
+      worker = subst (λ (g : Facts). connected g c.args.worker ≡ true) (sym c.bare.ensures.facts) (left_connected f c.args.worker (keys f) c.args.worker ∙ c.requires.worker);
       holds = subst (λ (g : Facts). (k : ℕ) → holds g c.args.worker k ≡ false) (sym c.bare.ensures.facts) (λ k. left_holds f c.args.worker (keys f) k c.sound.ensures (le_refl (keys f)));
       on = subst (λ (g : Facts). (k : ℕ) → is_on g c.args.worker k ≡ false) (sym c.bare.ensures.facts) (λ k. left_places f c.args.worker (keys f) k c.sound.ensures (le_refl (keys f)));
     }

@@ -19,8 +19,8 @@ join-requires-clause-workers c = (joins (facts c.args.table.now) c.in-Join.threa
 pub join-requires-clause-numbers : goal.join-requires-clause-numbers
 join-requires-clause-numbers c = (joins (facts c.args.table.now) c.in-Join.threads (this (facts c.args.table.now) _ _ c.in-Join.is c.requires.takes)).few_numbers
 
-pub leave-requires : goal.leave-requires
-leave-requires c = leaves (facts c.args.table.now) c.in-Leave.w (this (facts c.args.table.now) _ _ c.in-Leave.is c.requires.takes)
+pub leave-requires-clause-worker : goal.leave-requires-clause-worker
+leave-requires-clause-worker c = leaves (facts c.args.table.now) c.in-Leave.w (this (facts c.args.table.now) _ _ c.in-Leave.is c.requires.takes)
 
 pub hear_worker-requires-clause-worker : goal.hear_worker-requires-clause-worker
 hear_worker-requires-clause-worker c = (tells (facts c.args.table.now) c.in-FromWorker.w _ (this (facts c.args.table.now) _ _ c.in-FromWorker.is c.requires.takes)).0

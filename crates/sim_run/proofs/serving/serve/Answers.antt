@@ -31,7 +31,7 @@ new-requires-after_bounds g c κs within =
 pub simulate_world-served-requires-clause-opening : goal.simulate_world-served-requires-clause-opening
 simulate_world-served-requires-clause-opening g c κs within =
     let tasks = c.in_ok-graph.graph.job.tasks in
-    let e = setting_is c.in_ok-world.world (setting_of (shape_of tasks) 1 c.args.words.settings.saturation) (operation g.E.Elements.named tasks) c.in_ok-world.ensures.opening in
+    let e = setting_is c.in_ok-world.world (setting_of (shape_of tasks) 1 c.args.words.settings.saturation c.args.words.settings.allowed) (operation g.E.Elements.named tasks) c.in_ok-world.ensures.opening in
     let one = ap (λ (x : Setting). x.clients) e in
     record {
       going = c.in_ok-world.ensures.ready.going;

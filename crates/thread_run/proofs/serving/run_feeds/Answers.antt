@@ -8,6 +8,7 @@ use Rattle.job_run.specs.Plan.{Plan}
 use Rattle.job_run.specs.Values.{Named}
 use Rattle.node_runner.specs.Runs.{numbers as numbers_of}
 use Rattle.thread_run.specs.Ends.{left_as}
+use Rattle.thread_run.specs.Losses.{losses_in}
 use Rattle.thread_run.specs.Serving.{HasShort, ServesAll, ServesPart}
 use Rattle.thread_run.proofs.Openings.{opens-as}
 use Rattle.thread_run.proofs.Serves.{all-before, part-before, part_none, rose_after, rose_first, serves-none, serves-opened}
@@ -31,7 +32,7 @@ returns-in_default-clause-stopped g c =
     let old : View = s c.args.site.now in
     let mid : View = s c.open_feeds.new.site in
     let o = c.open_feeds.ensures.opens in
-    part_none p g.E.Elements.named (IsTrue g.V.Veil.told) (Rose old.read_faults mid.read_faults) (Rose old.write_faults mid.write_faults) old.files mid.files o.held o.created
+    part_none p (losses_in c.args.plan.now) g.E.Elements.named (IsTrue g.V.Veil.told) (Rose old.read_faults mid.read_faults) (Rose old.write_faults mid.write_faults) old.files mid.files o.held o.created
 
 pub returns-clause-files : goal.returns-clause-files
 returns-clause-files g c =
@@ -68,10 +69,11 @@ returns-clause-stopped g c =
     let mid : View = s c.open_feeds.new.site in
     let new : View = s c.run_saved.new.site in
     let o = c.open_feeds.ensures.opens in
+    let most = losses_in c.args.plan.now in
     let reads : Type 0 = HasShort (map (λ v. vec_len v) c.in-Ok.feeds.items) c.args.plan.now.threads ⊎ Rose mid.read_faults new.read_faults in
     let writes : Type 0 = Rose mid.write_faults new.write_faults in
-    IfErr-weaker c.run_saved.result.0 (λ e. ServesPart p named told reads writes mid.files new.files (left_as e)) (λ e. ServesPart p named told (Rose old.read_faults new.read_faults) (Rose old.write_faults new.write_faults) old.files new.files (left_as e))
-    (λ end part. part-before p named told (Rose old.read_faults new.read_faults) reads (Rose old.write_faults new.write_faults) writes old.files mid.files new.files (left_as end) o.held o.created o.tells
+    IfErr-weaker c.run_saved.result.0 (λ e. ServesPart p most named told reads writes mid.files new.files (left_as e)) (λ e. ServesPart p most named told (Rose old.read_faults new.read_faults) (Rose old.write_faults new.write_faults) old.files new.files (left_as e))
+    (λ end part. part-before p most named told (Rose old.read_faults new.read_faults) reads (Rose old.write_faults new.write_faults) writes old.files mid.files new.files (left_as end) o.held o.created o.tells
     (λ why. elim why [
       | inl short ↦ rose_after old.read_faults mid.read_faults new.read_faults c.run_saved.ensures.files.read_later (c.in-Ok.ensures.short short.0 short.1 short.2)
       | inr rose ↦ rose_first old.read_faults mid.read_faults new.read_faults o.later rose

@@ -9,6 +9,7 @@ use Rattle.job_run.specs.Jobs.{plan_of}
 use Rattle.job_run.specs.Plan.{Plan}
 use Rattle.job_run.specs.Values.{Named, tasks_of}
 use Rattle.job_run.specs.Wanted.{IsWantedOf}
+use Rattle.thread_run.specs.Losses.{losses_in}
 use Rattle.thread_run.specs.Reports.{label}
 use Rattle.thread_run.specs.Saver.{AreSaved, Saves}
 use Rattle.thread_run.specs.Serving.{HasShort}
@@ -21,7 +22,7 @@ pub open-requires-clause-keys : goal.open-requires-clause-keys
 open-requires-clause-keys g c κs within = keys-are (plan_of c.args.job.now) c.args.graph.now.job.tasks c.shape.result.now c.keys-keys.result c.requires.tasks c.shape.ensures c.keys-keys.ensures
 
 pub open-requires-clause-label : goal.open-requires-clause-label
-open-requires-clause-label g c κs within = label-of (plan_of c.args.job.now) g.P.Picks.picked c.args.graph.now (λ j. j.job) g.E.Elements.named g.V.Veil.told c.requires.picked c.requires.tasks
+open-requires-clause-label g c κs within = label-of (plan_of c.args.job.now) g.P.Picks.picked c.args.graph.now (λ j. j.job) g.E.Elements.named g.V.Veil.told g.P.Picks.allowed c.requires.picked c.requires.tasks
 
 -- ## A file couldn't be created
 
@@ -40,7 +41,7 @@ returns-in-Err-clause-stopped g c =
     let old : View = s c.args.site.now in
     let made : View = s c.open.new.site in
     let new : View = s c.give_all.new.site in
-    uncreated p named (IsTrue g.V.Veil.told) (HasShort (map (λ v. vec_len v) c.args.feeds.items) c.args.plan.now.threads ⊎ Rose old.read_faults new.read_faults) (Rose old.write_faults new.write_faults) old.files made.files new.files c.in-Err.fault c.unsaved.result
+    uncreated p (losses_in c.args.plan.now) named (IsTrue g.V.Veil.told) (HasShort (map (λ v. vec_len v) c.args.feeds.items) c.args.plan.now.threads ⊎ Rose old.read_faults new.read_faults) (Rose old.write_faults new.write_faults) old.files made.files new.files c.in-Err.fault c.unsaved.result
     c.requires.runs (c.laws_hold.ensures named) c.in-Err.ensures.left c.give_all.ensures.files c.open.ensures.some
     (λ is. rose_after old.write_faults made.write_faults new.write_faults (omega (arith, c.give_all.ensures.only.write_faults)) (c.open.ensures.cause.failed (c.in-Err.is ∙ ap Err is))) c.unsaved.ensures
 
@@ -66,7 +67,7 @@ returns-clause-files g c =
 pub returns-clause-histories : goal.returns-clause-histories
 returns-clause-histories g c =
     let ends = c.run_cluster-ends.result.0 in
-    served-run (facts_of g.P.Picks.picked (λ j. j.job) g.E.Elements.named g.V.Veil.told) (graph_of c.args.graph.now.job) c.args.plan.now c.args.wanted.now.all _ ends.result ends.left.items ends.histories c.ended.result c.run_cluster-ends.ensures.ended
+    served-run (facts_of g.P.Picks.picked (λ j. j.job) g.E.Elements.named g.V.Veil.told g.P.Picks.allowed) (graph_of c.args.graph.now.job) c.args.plan.now c.args.wanted.now.all _ ends.result ends.left.items ends.histories c.ended.result c.run_cluster-ends.ensures.ended
     c.ended.ensures.given c.ended.ensures.histories
 
 pub returns-clause-served : goal.returns-clause-served
@@ -80,10 +81,11 @@ returns-clause-served g c =
     let new : View = s c.give-written.new.site in
     let first : Saves = c.in-Ok.saver in
     let last : Saves = c.run_cluster-ends.result.1.saver in
-    let is : facts_of g.P.Picks.picked (λ j. j.job) named told ≡ label told named (tasks_of p) = facts-are g.P.Picks.picked c.args.graph.now (λ j. j.job) named told (tasks_of p) c.requires.picked c.requires.tasks in
+    let allowed = g.P.Picks.allowed in
+    let is : facts_of g.P.Picks.picked (λ j. j.job) named told allowed ≡ label told allowed named (tasks_of p) = facts-are g.P.Picks.picked c.args.graph.now (λ j. j.job) named told allowed (tasks_of p) c.requires.picked c.requires.tasks in
     let A : LabelFacts Array → Type 0 = λ l. AreSaved l last in
     let none = c.in-Ok.ensures.none in
-    let r : IsServed p named told first last old.files back.files new.files = record {
+    let r : IsServed p named told allowed first last old.files back.files new.files = record {
       runs = c.requires.runs;
       laws = c.laws_hold.ensures named;
       wanted = subst (IsWantedOf p) (sym none.wanted_is) c.requires.wanted;
@@ -94,7 +96,7 @@ returns-clause-served g c =
       saved = subst A is c.give-written.ensures.saved;
       gives = c.give-written.ensures.gives;
     } in
-    all-served p named told first last old.files back.files new.files r (ap (λ (f : Files). f.created) c.give_feeds.ensures.files ∙ c.in-Ok.ensures.created) c.args.wanted.now.all c.ended.result c.run_cluster-ends.result.0.result c.give-written.result
+    all-served p named told allowed first last old.files back.files new.files r (ap (λ (f : Files). f.created) c.give_feeds.ensures.files ∙ c.in-Ok.ensures.created) c.args.wanted.now.all c.ended.result c.run_cluster-ends.result.0.result c.give-written.result
     c.requires.wanted.all_is c.ended.ensures.given c.ended.ensures.written c.run_cluster-ends.ensures.had c.give-written.ensures.sound
 
 pub returns-clause-stopped : goal.returns-clause-stopped
@@ -110,11 +112,12 @@ returns-clause-stopped g c =
     let first : Saves = c.in-Ok.saver in
     let last : Saves = c.run_cluster-ends.result.1.saver in
     let ends = c.run_cluster-ends.result.0 in
-    let facts : LabelFacts Array = facts_of g.P.Picks.picked (λ j. j.job) named told in
-    let is : facts ≡ label told named (tasks_of p) = facts-are g.P.Picks.picked c.args.graph.now (λ j. j.job) named told (tasks_of p) c.requires.picked c.requires.tasks in
+    let allowed = g.P.Picks.allowed in
+    let facts : LabelFacts Array = facts_of g.P.Picks.picked (λ j. j.job) named told allowed in
+    let is : facts ≡ label told allowed named (tasks_of p) = facts-are g.P.Picks.picked c.args.graph.now (λ j. j.job) named told allowed (tasks_of p) c.requires.picked c.requires.tasks in
     let A : LabelFacts Array → Type 0 = λ l. AreSaved l last in
     let none = c.in-Ok.ensures.none in
-    let r : IsServed p named told first last old.files back.files new.files = record {
+    let r : IsServed p named told allowed first last old.files back.files new.files = record {
       runs = c.requires.runs;
       laws = c.laws_hold.ensures named;
       wanted = subst (IsWantedOf p) (sym none.wanted_is) c.requires.wanted;
@@ -127,7 +130,7 @@ returns-clause-stopped g c =
     } in
     let short : Type 0 = HasShort (map (λ v. vec_len v) c.args.feeds.items) c.args.plan.now.threads in
     let reads : Type 0 = short ⊎ Rose old.read_faults new.read_faults in
-    part-served p named told first last old.files back.files new.files r (ap (λ (f : Files). f.created) c.give_feeds.ensures.files ∙ c.in-Ok.ensures.created) reads (Rose old.write_faults new.write_faults) facts c.args.wanted.now.all c.ended.result ends.result
+    part-served p named told allowed first last old.files back.files new.files r (ap (λ (f : Files). f.created) c.give_feeds.ensures.files ∙ c.in-Ok.ensures.created) (losses_in c.args.plan.now) reads (Rose old.write_faults new.write_faults) facts c.args.wanted.now.all c.ended.result ends.result
     c.give-written.result is c.requires.wanted.all_is
     (why-of facts (graph_of c.args.graph.now.job) c.args.plan.now c.args.wanted.now.all _ reads ends.result ends.left.items ends.histories
     (λ f. elim f [
@@ -139,5 +142,5 @@ returns-clause-stopped g c =
 pub returns-clause-outgrown : goal.returns-clause-outgrown
 returns-clause-outgrown g c = λ is.
     let ends = c.run_cluster-ends.result.0 in
-    outgrew (facts_of g.P.Picks.picked (λ j. j.job) g.E.Elements.named g.V.Veil.told) (graph_of c.args.graph.now.job) c.args.plan.now c.args.wanted.now.all _ ends.result ends.left.items ends.histories
+    outgrew (facts_of g.P.Picks.picked (λ j. j.job) g.E.Elements.named g.V.Veil.told g.P.Picks.allowed) (graph_of c.args.graph.now.job) c.args.plan.now c.args.wanted.now.all _ ends.result ends.left.items ends.histories
     (c.ended.ensures.events is) c.run_cluster-ends.ensures.ended

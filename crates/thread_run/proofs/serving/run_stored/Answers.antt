@@ -8,6 +8,7 @@ use Rattle.job_run.specs.Plan.{Plan}
 use Rattle.job_run.specs.Values.{Named}
 use Rattle.node_runner.specs.Runs.{numbers as numbers_of}
 use Rattle.thread_run.specs.Ends.{left_as}
+use Rattle.thread_run.specs.Losses.{losses_in}
 use Rattle.thread_run.specs.Serving.{ServesAll, ServesPart}
 use Rattle.thread_run.proofs.Disks.{disk-for}
 use Rattle.thread_run.proofs.Fixed.{fixed-kept, told-tells}
@@ -18,7 +19,7 @@ use Rattle.thread_run.proofs.serving.run_stored.Goals as goal
 pub open_stores-requires-after_bounds : goal.open_stores-requires-after_bounds
 open_stores-requires-after_bounds g c κs within =
     let files = (g.S.Site.view c.args.site.now).files in
-    disk-for g.P.Picks.picked (λ j. j.job) g.E.Elements.named g.V.Veil.told files.tells (told-tells g.V.Veil.told files (plan_of c.args.job.now).inputs c.requires.fixed.told_is)
+    disk-for g.P.Picks.picked (λ j. j.job) g.E.Elements.named g.V.Veil.told files.tells g.P.Picks.allowed (told-tells g.V.Veil.told files (plan_of c.args.job.now).inputs c.requires.fixed.told_is)
 
 pub run_feeds-served-requires-clause-fixed : goal.run_feeds-served-requires-clause-fixed
 run_feeds-served-requires-clause-fixed g c κs within =
@@ -40,7 +41,7 @@ returns-in_default-clause-stopped g c =
     let s = g.S.Site.view in
     let old : View = s c.args.site.now in
     let new : View = s c.open_stores.new.site in
-    part_none p g.E.Elements.named (IsTrue g.V.Veil.told) (Rose old.read_faults new.read_faults) (Rose old.write_faults new.write_faults) old.files new.files (λ i. (c.open_stores.ensures.files i).held) (λ i. (c.open_stores.ensures.files i).created)
+    part_none p (losses_in c.args.plan.now) g.E.Elements.named (IsTrue g.V.Veil.told) (Rose old.read_faults new.read_faults) (Rose old.write_faults new.write_faults) old.files new.files (λ i. (c.open_stores.ensures.files i).held) (λ i. (c.open_stores.ensures.files i).created)
 
 pub returns-clause-files : goal.returns-clause-files
 returns-clause-files g c =
@@ -71,10 +72,11 @@ returns-clause-stopped g c =
     let disks : View = s c.open_stores.new.site in
     let mid : View = s c.run_feeds-served.new.site in
     let new : View = s c.give_stores.new.site in
+    let most = losses_in c.args.plan.now in
     let reads : Type 0 = Rose disks.read_faults mid.read_faults in
     let writes : Type 0 = Rose disks.write_faults mid.write_faults in
-    IfErr-weaker c.run_feeds-served.result.0 (λ e. ServesPart p named told reads writes disks.files mid.files (left_as e)) (λ e. ServesPart p named told (Rose old.read_faults new.read_faults) (Rose old.write_faults new.write_faults) old.files new.files (left_as e))
-    (λ end part. part-between p named told (Rose old.read_faults new.read_faults) reads (Rose old.write_faults new.write_faults) writes old.files disks.files mid.files new.files (left_as end) c.open_stores.ensures.files c.give_stores.ensures.files
+    IfErr-weaker c.run_feeds-served.result.0 (λ e. ServesPart p most named told reads writes disks.files mid.files (left_as e)) (λ e. ServesPart p most named told (Rose old.read_faults new.read_faults) (Rose old.write_faults new.write_faults) old.files new.files (left_as e))
+    (λ end part. part-between p most named told (Rose old.read_faults new.read_faults) reads (Rose old.write_faults new.write_faults) writes old.files disks.files mid.files new.files (left_as end) c.open_stores.ensures.files c.give_stores.ensures.files
     (λ rose. rose_after old.read_faults mid.read_faults new.read_faults (omega (arith, c.give_stores.ensures.read_faults)) (rose_first old.read_faults disks.read_faults mid.read_faults (omega (arith, c.open_stores.ensures.read_faults)) rose))
     (λ rose. rose_after old.write_faults mid.write_faults new.write_faults (omega (arith, c.give_stores.ensures.write_faults)) (rose_first old.write_faults disks.write_faults mid.write_faults (omega (arith, c.open_stores.ensures.write_faults)) rose)) part)
     c.run_feeds-served.ensures.stopped

@@ -133,6 +133,14 @@ pub returns-in-Evict : goal.returns-in-Evict
 returns-in-Evict g c =
     record { moved = subst (λ e. OnOk c.evict.result (IsMoved c.args.self.now c.evict.new.self e)) (sym c.in-Evict.is) c.evict.ensures.moved; kept = c.evict.ensures.kept }
 
+pub replicate-requires : goal.replicate-requires
+replicate-requires g c =
+    record { joint = c.requires.joint; room = c.requires.room; possible = subst (λ e. enabled (world c.args.self.now) e ≡ true) c.in-Replicate.is c.requires.possible }
+
+pub returns-in-Replicate : goal.returns-in-Replicate
+returns-in-Replicate g c =
+    record { moved = subst (λ e. OnOk c.replicate.result (IsMoved c.args.self.now c.replicate.new.self e)) (sym c.in-Replicate.is) c.replicate.ensures.moved; kept = c.replicate.ensures.kept }
+
 pub lose_spilled-requires : goal.lose_spilled-requires
 lose_spilled-requires g c =
     record { joint = c.requires.joint; room = c.requires.room; possible = subst (λ e. enabled (world c.args.self.now) e ≡ true) c.in-LoseSpilled.is c.requires.possible }

@@ -75,6 +75,10 @@ pub returns-in-Evict : goal.returns-in-Evict
 unfolding enabled
 returns-in-Evict g c = (c.takes-in-Evict.ensures) ∙ ap (enabled (world c.args.self.now)) (sym c.in-Evict.is)
 
+pub returns-in-Replicate : goal.returns-in-Replicate
+unfolding enabled
+returns-in-Replicate g c = (c.takes-in-Replicate.ensures) ∙ ap (enabled (world c.args.self.now)) (sym c.in-Replicate.is)
+
 pub returns-in-Spill : goal.returns-in-Spill
 unfolding enabled
 returns-in-Spill g c = (c.may_spill.ensures) ∙ ap (enabled (world c.args.self.now)) (sym c.in-Spill.is)

@@ -12,8 +12,8 @@ run-requires-clause-inputs g c =
     let j = g.J.JobSpec in
     let k = g.K.RunName in
     let s = c.args.self.now in
-    inputs_fit j.graph j.operation j.key_dims j.block_dims k.told k.job s.job.now c.args.key
-    ((run_facts j.graph j.operation j.key_dims j.block_dims k.told k.job).deps c.args.key) c.args.inputs.now s.named refl c.requires
+    inputs_fit j.graph j.operation j.key_dims j.block_dims k.told k.allowed k.job s.job.now c.args.key
+    ((run_facts j.graph j.operation j.key_dims j.block_dims k.told k.allowed k.job).deps c.args.key) c.args.inputs.now s.named refl c.requires
 
 pub returns-clause-value : goal.returns-clause-value
 returns-clause-value g c =
@@ -21,8 +21,8 @@ returns-clause-value g c =
     let k = g.K.RunName in
     let s = c.args.self.now in
     let made = j.operation s.job.now c.args.key (blocks_of c.args.inputs.now) in
-    outcome_value j.graph j.operation j.key_dims j.block_dims k.told k.job s.job.now c.args.key
-    ((run_facts j.graph j.operation j.key_dims j.block_dims k.told k.job).deps c.args.key) c.args.inputs.now s.named refl c.requires
+    outcome_value j.graph j.operation j.key_dims j.block_dims k.told k.allowed k.job s.job.now c.args.key
+    ((run_facts j.graph j.operation j.key_dims j.block_dims k.told k.allowed k.job).deps c.args.key) c.args.inputs.now s.named refl c.requires
     (subst IsShape c.shape-graph.ensures c.sound.ensures) c.run.result
     (if_ok (λ o. j.feed_tells s.job.now c.feed.inside.feed → value_of o ≡ made) (λ o. IsTrue k.told → value_of o ≡ made)
     (λ o h t. h (tells_named j.feed_fits j.feed_tells k.told k.job s.job.now s.named c.feed.inside.feed c.feed.invariant t)) c.run.result c.run.ensures.value)
@@ -34,8 +34,8 @@ returns-clause-zero g c =
     let k = g.K.RunName in
     let s = c.args.self.now in
     let made = j.operation s.job.now c.args.key (blocks_of c.args.inputs.now) in
-    outcome_zero j.graph j.operation j.key_dims j.block_dims k.told k.job s.job.now c.args.key
-    ((run_facts j.graph j.operation j.key_dims j.block_dims k.told k.job).deps c.args.key) c.args.inputs.now s.named refl c.requires
+    outcome_zero j.graph j.operation j.key_dims j.block_dims k.told k.allowed k.job s.job.now c.args.key
+    ((run_facts j.graph j.operation j.key_dims j.block_dims k.told k.allowed k.job).deps c.args.key) c.args.inputs.now s.named refl c.requires
     (subst IsShape c.shape-graph.ensures c.sound.ensures) c.run.result
     (if_ok (λ o. j.feed_tells s.job.now c.feed.inside.feed → value_of o ≡ made) (λ o. IsTrue k.told → value_of o ≡ made)
     (λ o h t. h (tells_named j.feed_fits j.feed_tells k.told k.job s.job.now s.named c.feed.inside.feed c.feed.invariant t)) c.run.result c.run.ensures.value)

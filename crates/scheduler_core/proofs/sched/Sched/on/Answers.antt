@@ -5,7 +5,7 @@ use Rattle.task_table.specs.Tasks.{facts}
 use Rattle.cluster_laws.specs.Attempts.{AttemptsEndForACause}
 use Rattle.cluster_laws.proofs.Attempts.{attempts_end}
 use Rattle.scheduler_core.specs.Inner.{IsAfter}
-use Rattle.scheduler_core.proofs.AfterLemmas.{after_more, room_left, sent_left}
+use Rattle.scheduler_core.proofs.AfterLemmas.{after_more, losses_left, room_left, sent_left}
 use Rattle.scheduler_core.proofs.sched.Sched.on.Goals as goal
 
 pub carry_out-requires-clause-room : goal.carry_out-requires-clause-room
@@ -19,6 +19,9 @@ carry_out-requires-clause-sent c w =
     let f = facts c.self.inside.table in
     let l : c.self.inside.taken < 1099511627776 = omega (arith, c.if-self-ge-EVENT_LIMIT.false) in
     sent_left (f.sent w) c.self.inside.taken ((c.self.invariant.after c.if-self.false).sent w) l
+
+pub carry_out-requires-clause-losses : goal.carry_out-requires-clause-losses
+carry_out-requires-clause-losses c k = losses_left (facts c.self.inside.table) c.self.inside.taken k c.sound.ensures (c.self.invariant.after c.if-self.false)
 
 pub invariant_of-self : goal.invariant_of-self
 invariant_of-self c =

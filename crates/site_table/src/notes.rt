@@ -39,6 +39,17 @@ fn read(row: &[AtomicU64], place: usize) -> u64 {
 }
 
 impl Notes {
+    /// Nothing is counted but that there was something.
+    pub fn none(alloc: Global) -> Self {
+        Notes {
+            workers: 0,
+            keys: 0,
+            started: Vec::new(alloc),
+            ended: Vec::new(alloc),
+            past: AtomicU64::new(0),
+        }
+    }
+
     /// Nothing has been started, by workers below `workers` of keys below `keys`.
     pub fn new(alloc: Global, workers: usize, keys: usize) -> Result<Self, AllocError> {
         let count = workers.saturating_mul(keys);
